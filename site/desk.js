@@ -1,17 +1,18 @@
-"use strict";
 // Where calls of the engine wait: a worker makes them one after another, and of calls of one topic the newest alone counts.
+import { Engine } from "./engine.js";
 
 // Memory that the engine may take in a page.
-const MOST_MEMORY = 1 << 30;
+export const MOST_MEMORY = 1 << 30;
 
-function bytesOf(base64) {
+export function bytesOf(base64) {
   return Uint8Array.from(atob(base64.trim()), letter => letter.charCodeAt(0));
 }
 
-class Desk {
-  constructor(module, sources) {
+export class Desk {
+  // Of the bytes of the module, and the source of the worker.
+  constructor(module, source) {
     this.module = module;
-    this.sources = sources;
+    this.source = source;
     this.most = MOST_MEMORY;
     this.calls = new Map();
     this.waiting = new Map();
@@ -23,7 +24,7 @@ class Desk {
   // Begins with a worker; without one, in the page itself.
   async begin() {
     try {
-      this.worker = new Worker(URL.createObjectURL(new Blob([this.sources.join("\n")], { type: "text/javascript" })));
+      this.worker = new Worker(URL.createObjectURL(new Blob([this.source], { type: "text/javascript" })));
       this.worker.onmessage = ({ data }) => this.answered(data);
       this.worker.onerror = event => { event.preventDefault(); this.alone(); };
       await this.send({ module: this.module, most: this.most });

@@ -1,7 +1,7 @@
 #!/usr/bin/env python3
-"""emit.py OUT.bc OUT.a: the library `page`, and the module of LLVM that rattle hands to clang for it.
+"""emit.py OUT.bc OUT.a [CRATE]: the library `page`, or that of another crate, and the module of LLVM that rattle hands to clang for it.
 
-It is rattle's own build of crates/page over what `rt check` kept there, with a clang in its tools that keeps what it is given.
+It is rattle's own build of the crate over what `rt check` kept there, with a clang in its tools that keeps what it is given.
 """
 import os
 import pathlib
@@ -35,27 +35,28 @@ def below(crate, found, seen):
     return seen
 
 
-def words(tools, archive):
-    """The words of rattle's build of the library."""
+def words(crate, tools, archive):
+    """The words of rattle's build of a crate's library."""
     found = libraries()
 
     def rlib(name):
         return f"{ROOT}/crates/{name}/out/rlib/{name}.rlib" if name in found else f"{KIT}/rlibs/{name}.rlib"
 
-    given = [f"{KIT}/bin/rattle", "build", "--crate-name", "page", "src/lib.rt", "--extern", f"std={KIT}/rlibs/std.rlib"]
-    for name in found["page"]:
+    given = [f"{KIT}/bin/rattle", "build", "--crate-name", crate, "src/lib.rt", "--extern", f"std={KIT}/rlibs/std.rlib"]
+    for name in found[crate]:
         given += ["--extern", f"{name}={rlib(name)}"]
-    for folder in [f"{KIT}/rlibs", *(os.path.dirname(rlib(name)) for name in below("page", found, []))]:
+    for folder in [f"{KIT}/rlibs", *(os.path.dirname(rlib(name)) for name in below(crate, found, []))]:
         given += ["-L", f"dependency={folder}"]
     return given + [
         "--antt-project", f"{KIT}/rattle/logic/antt-project.json", "--logic-built", f"{KIT}/logic_built", "--jobs", "1",
-        "--links", "page=", "--crate-type", "staticlib", "--incremental", "out/incremental", "--toolchain", tools,
+        "--links", f"{crate}=", "--crate-type", "staticlib", "--incremental", "out/incremental", "--toolchain", tools,
         "--backend", "llvm", "-o", archive,
     ]
 
 
 def main():
     out, archive = map(os.path.abspath, sys.argv[1:3])
+    crate = sys.argv[3] if len(sys.argv) > 3 else "page"
     with tempfile.TemporaryDirectory() as work:
         tools = pathlib.Path(work, "tools")
         (tools / "bin").mkdir(parents=True)
@@ -65,7 +66,7 @@ def main():
                 os.symlink(f"{KIT}/toolchain/bin/{file}", tools / "bin" / file)
         (tools / "bin" / "clang").write_text(CLANG.format(kept=out, kit=KIT))
         (tools / "bin" / "clang").chmod(0o755)
-        ran = subprocess.run(words(str(tools), archive), cwd=ROOT / "crates" / "page", capture_output=True, text=True)
+        ran = subprocess.run(words(crate, str(tools), archive), cwd=ROOT / "crates" / crate, capture_output=True, text=True)
     if ran.returncode or not os.path.isfile(out):
         sys.exit((ran.stdout + ran.stderr)[-3000:] or "emit.py: rattle called no clang")
 

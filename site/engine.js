@@ -1,9 +1,8 @@
-"use strict";
 // The engine: run(words, texts) answers { status, output, faults } as the program `route` would, over texts in memory.
 
-const FAULT_ROOM = 1 << 16, FIRST_ROOM = 1 << 20;
+export const FAULT_ROOM = 1 << 16, FIRST_ROOM = 1 << 20;
 
-class Engine {
+export class Engine {
   static async of(bytes) {
     return new Engine(await WebAssembly.compile(bytes));
   }

@@ -1,9 +1,12 @@
-"use strict";
-// What stands beside the drawing: the texts with their faults, the plan, the walk, the figures.
+// What is beside the drawing: the texts with their faults, the plan, the walk, the figures.
+import { inPage } from "./wording.js";
+import { byId, interval, made, many } from "./page.js";
+import { drawRows, drawWalk, pointAt } from "./drawing.js";
+import { COMPARED, comparisonOf, figuresOf } from "./figures.js";
+import { TABS, store } from "./state.js";
 
-const TABS = ["network", "plan", "walk", "run", "figures", "about"];
-
-function showTab(name, isFocused) {
+export function showTab(name, isFocused) {
+  store.set({ tab: name });
   for (const tab of TABS) {
     const button = byId("tab-" + tab);
     button.setAttribute("aria-selected", String(tab === name));
@@ -15,7 +18,7 @@ function showTab(name, isFocused) {
   drawWalk();
 }
 
-function listenToTabs() {
+export function listenToTabs() {
   TABS.forEach((tab, i) => {
     byId("tab-" + tab).onclick = () => showTab(tab);
     byId("tab-" + tab).onkeydown = event => {
@@ -29,11 +32,11 @@ function listenToTabs() {
 }
 
 // The texts that are written in the page, and the faults of each by their lines.
-const EDITED = ["topology", "script", "trace"];
+export const EDITED = ["topology", "script", "trace"];
 const faults = { topology: [], script: [], trace: [] };
 
 // The numbers of lines beside a text, where lines with a fault are marked.
-function showGutter(name) {
+export function showGutter(name) {
   const area = byId(name), gutter = area.parentNode.querySelector(".gutter");
   if (area.offsetParent === null) return;
   const marked = new Set(faults[name].map(fault => fault.line)), lines = Math.min(area.value.split("\n").length, 20000);
@@ -47,7 +50,7 @@ function showGutter(name) {
 }
 
 // Puts the cursor to a line of a text.
-function goToLine(name, line) {
+export function goToLine(name, line) {
   const area = byId(name), lines = area.value.split("\n");
   const from = lines.slice(0, line - 1).reduce((sum, it) => sum + it.length + 1, 0);
   area.focus();
@@ -56,8 +59,8 @@ function goToLine(name, line) {
   showGutter(name);
 }
 
-// Tells the faults of a text below it.
-function showFaults(name, list) {
+// Says the faults of a text below it.
+export function showFaults(name, list) {
   faults[name] = list;
   const told = byId(name + "-told");
   told.textContent = "";
@@ -67,16 +70,18 @@ function showFaults(name, list) {
       const button = made(item, "button", "line " + line);
       button.onclick = () => goToLine(name, line);
     }
-    made(item, "span", " " + said, "fault");
+    made(item, "span", " " + inPage(said).said, "fault");
   }
   byId(name).setAttribute("aria-invalid", String(list.length > 0));
   showGutter(name);
 }
 
-function tell(said, isFault) {
+// Says how it went: a `fault`, a `note` on what may be amiss, or by the way; with buttons for what helps.
+export function tell(said, kind = "dim", actions = []) {
   const told = byId("told");
   told.textContent = "";
-  made(told, "span", said, isFault ? "fault" : "dim");
+  made(told, "span", said, kind);
+  for (const { name, call } of actions) made(told, "button", name).onclick = call;
 }
 
 function fillNames(id, names, chosen) {
@@ -87,11 +92,11 @@ function fillNames(id, names, chosen) {
 }
 
 // The lists of nodes and of links.
-function showNames() {
-  const names = state.graph ? state.graph.names : [], links = state.graph ? state.graph.links : [];
-  fillNames("node", names, state.node);
-  fillNames("from", names, state.from);
-  fillNames("to", names, state.to);
+export function showNames() {
+  const { graph, node, from, to } = store.now, names = graph ? graph.names : [], links = graph ? graph.links : [];
+  fillNames("node", names, node);
+  fillNames("from", names, from);
+  fillNames("to", names, to);
   fillNames("edge", links.map(({ u, v }) => `${names[u]} - ${names[v]}`), 0);
   const list = byId("names");
   list.textContent = "";
@@ -99,44 +104,63 @@ function showNames() {
   for (const id of ["node", "from", "to", "edge", "swap", "break", "send", "drain"]) byId(id).disabled = names.length === 0;
 }
 
-function showPlan() {
-  byId("plan").textContent = state.texts.plan || "";
+export function showPlan() {
+  byId("plan").textContent = store.now.texts.plan || "";
   drawRows();
-  pointAt(state.node);
+  pointAt(store.now.node);
 }
 
-function showWalk() {
-  const body = byId("walk"), { walk } = state;
+export function showWalk() {
+  const body = byId("walk"), { walk, graph, to: goalNode } = store.now;
   body.textContent = "";
   drawWalk();
   byId("walk-told").textContent = "";
   if (!walk) return;
-  const names = state.graph.names, goal = walk.hops[walk.hops.length - 1];
-  byId("walk-told").textContent = `${many(walk.count, "hop")}, weight ${walk.weight}. The packet carries ${goal.label}, the label of ${names[state.to]}; each node looks for the interval that holds it.`;
+  const goal = walk.hops[walk.hops.length - 1];
+  byId("walk-told").textContent = `${many(walk.count, "hop")}, weight ${walk.weight}. The packet carries ${goal.label}, the label of ${graph.names[goalNode]}; each node looks for the interval that holds it.`;
   for (const { node, label, start, end, to, weight } of walk.hops) {
-    const line = made(body, "tr"), row = state.plan && state.plan.rows[state.graph.numbers.get(node)];
+    const line = made(body, "tr");
     made(line, "td", node);
     made(line, "td", label);
-    const found = made(line, "td", start === undefined ? "" : interval({ start, end }));
-    if (row && to !== undefined) found.style.color = portColours(row).get(state.graph.numbers.get(to));
+    made(line, "td", start === undefined ? "" : interval({ start, end }));
     made(line, "td", to === undefined ? "" : to);
     made(line, "td", weight === undefined ? "" : weight);
   }
 }
 
-// What each figure of `stats` is.
-const FIGURES = {
-  stats: "kind and nodes", links: "links", starts: "intervals of all nodes", entries: "entries of full tables", bits: "bits of the intervals, and of full tables",
-  "greatest-row": "the node with the most intervals", walks: "length of all walks", distances: "all distances", worst: "the walk that is longest beside its distance",
-  compactness: "the most intervals at a port", dependencies: "links that could wait in a ring, were queues to hold back",
-};
-
-function showFigures(text) {
+function fillFigures(rows) {
   const table = byId("figures");
   table.textContent = "";
-  for (const line of (text || "").split("\n").filter(it => it !== "")) {
-    const [name, ...values] = line.split(" "), row = made(table, "tr");
-    made(row, "th", FIGURES[name] || name).scope = "row";
-    made(row, "td", values.join(" ").slice(0, 400));
+  for (const [head, value] of rows) {
+    const row = made(table, "tr");
+    made(row, "th", head).scope = "row";
+    made(row, "td", value);
+  }
+}
+
+export function showFigures(text) {
+  fillFigures(text ? figuresOf(text) : []);
+}
+
+// The plans of all kinds and numberings beside each other; a click chooses one.
+export function showComparison(text, onChosen) {
+  const head = byId("compared-head"), body = byId("compared"), { now } = store;
+  head.textContent = body.textContent = "";
+  byId("compare-table").hidden = !text;
+  if (!text) return;
+  for (const name of COMPARED) made(head, "th", name).scope = "col";
+  for (const row of comparisonOf(text)) {
+    const line = made(body, "tr"), isOf = name => Boolean(row.set) && row.set[name] === now[name];
+    const isChosen = isOf("kind") && (now.kind === "landmark" ? isOf("landmarks") && isOf("stretch") : row.numbering === (now.kind === "tree" ? "depth-first" : now.numbering));
+    row.cells.forEach((cell, i) => {
+      if (i > 0 || row.kind === "") made(line, "td", cell);
+      else {
+        const button = made(made(line, "td"), "button", cell);
+        button.setAttribute("aria-pressed", String(isChosen));
+        button.title = `Use ${row.kind}, numbered ${row.numbering}`;
+      }
+    });
+    line.classList.toggle("chosen", isChosen);
+    if (row.kind !== "") line.onclick = () => onChosen(row.set);
   }
 }

@@ -1,24 +1,32 @@
-"use strict";
 // A place on the page for each node, name and weight. The same graph is always drawn alike.
 
-// For each node how many links away each other one is; -1 where there is no way.
-function hopsBetween(graph) {
+// The neighbours of each node.
+export function neighboursOf(graph) {
   const near = graph.names.map(() => []);
   for (const { u, v } of graph.links) { near[u].push(v); near[v].push(u); }
-  return graph.names.map((_, start) => {
-    const hops = new Int32Array(graph.names.length).fill(-1), queue = [start];
-    hops[start] = 0;
-    for (let i = 0; i < queue.length; i++) {
-      for (const w of near[queue[i]]) {
-        if (hops[w] < 0) { hops[w] = hops[queue[i]] + 1; queue.push(w); }
-      }
+  return near;
+}
+
+// How many links away each node is from one; -1 where there is no way.
+export function hopsFrom(graph, start, near = neighboursOf(graph)) {
+  const hops = new Int32Array(graph.names.length).fill(-1), queue = [start];
+  hops[start] = 0;
+  for (let i = 0; i < queue.length; i++) {
+    for (const w of near[queue[i]]) {
+      if (hops[w] < 0) { hops[w] = hops[queue[i]] + 1; queue.push(w); }
     }
-    return hops;
-  });
+  }
+  return hops;
+}
+
+// For each node how many links away each other one is; -1 where there is no way.
+export function hopsBetween(graph) {
+  const near = neighboursOf(graph);
+  return graph.names.map((_, start) => hopsFrom(graph, start, near));
 }
 
 // Numbers from 0 below `most` that look random, and are the same each time (xorshift).
-function seeded() {
+export function seeded() {
   let s = 2463534242;
   return most => {
     s ^= s << 13; s ^= s >>> 17; s ^= s << 5;
@@ -28,7 +36,7 @@ function seeded() {
 
 // Points whose distances come near to the numbers of links between nodes, by the least stress: pair after pair in random
 // order is moved together or apart, by ever smaller steps (Zheng, Pawar and Goodman 2018).
-function leastStress(hops) {
+export function leastStress(hops) {
   const n = hops.length, random = seeded(), pairs = new Int32Array(n * (n - 1) / 2);
   const far = 1 + hops.reduce((most, row) => row.reduce((a, b) => Math.max(a, b), most), 1);
   for (let u = 0, i = 0; u < n; u++) for (let v = u + 1; v < n; v++) pairs[i++] = u * n + v;
@@ -51,9 +59,47 @@ function leastStress(hops) {
   return hops.map((_, u) => ({ x: x[u], y: y[u] }));
 }
 
+// A grid's nodes as columns and rows: from a corner and another, by how many links away each node is; null for another network.
+export function gridOf(graph) {
+  const near = neighboursOf(graph), n = graph.names.length, corners = near.map((_, u) => u).filter(u => near[u].length === 2);
+  if (n < 9 || corners.length !== 4 || near.some(of => of.length > 4)) return null;
+  const from = hopsFrom(graph, corners[0], near);
+  for (const corner of corners.slice(1)) {
+    const to = hopsFrom(graph, corner, near), wide = from[corner], seen = new Set();
+    const points = Array.from(from, (hop, u) => ({ x: (hop - to[u] + wide) / 2, y: (hop + to[u] - wide) / 2 }));
+    for (const { x, y } of points) if (Number.isInteger(x) && Number.isInteger(y) && x >= 0 && x <= wide && y >= 0) seen.add(`${x} ${y}`);
+    const isGrid = seen.size === n && n % (wide + 1) === 0 && graph.links.every(({ u, v }) => Math.abs(points[u].x - points[v].x) + Math.abs(points[u].y - points[v].y) === 1);
+    if (isGrid && wide + 1 < n) return points;
+  }
+  return null;
+}
+
+// The nodes of a network of layers, one above the other: names of a layer begin with the same letters, and its links go to
+// the layers beside it alone. Null for another network.
+export function layersOf(graph) {
+  const kinds = graph.names.map(name => (/^[A-Za-z]+/.exec(name) || [""])[0].toLowerCase()), all = [...new Set(kinds)];
+  if (all.length < 3 || all.length > 6 || graph.names.length < 12 || all.includes("")) return null;
+  const beside = new Map(all.map(kind => [kind, new Set()]));
+  for (const { u, v } of graph.links) { beside.get(kinds[u]).add(kinds[v]); beside.get(kinds[v]).add(kinds[u]); }
+  const ends = all.filter(kind => beside.get(kind).size === 1), many = kind => kinds.filter(it => it === kind).length;
+  if (ends.length !== 2 || all.some(kind => beside.get(kind).has(kind) || beside.get(kind).size > 2)) return null;
+  const order = [ends.sort((a, b) => many(a) - many(b))[0]];
+  for (let next = order[0]; next !== undefined;) {
+    next = [...beside.get(next)].find(kind => !order.includes(kind));
+    if (next !== undefined) order.push(next);
+  }
+  if (order.length !== all.length) return null;
+  const points = [], wide = graph.names.length;
+  order.forEach((kind, y) => {
+    const own = graph.names.map((_, u) => u).filter(u => kinds[u] === kind).sort((u, v) => graph.names[u].localeCompare(graph.names[v], "en", { numeric: true }));
+    own.forEach((u, i) => { points[u] = { x: (i + 0.5) / own.length * wide, y: y * wide / order.length }; });
+  });
+  return points;
+}
+
 // Turns the points so that their long side lies across and the first node is at the upper left; where no side is the long
 // one the first node is at 45 degrees.
-function turned(points) {
+export function turned(points) {
   const n = points.length, mx = points.reduce((sum, p) => sum + p.x, 0) / n, my = points.reduce((sum, p) => sum + p.y, 0) / n;
   const middled = points.map(p => ({ x: p.x - mx, y: p.y - my }));
   let xx = 0, xy = 0, yy = 0;
@@ -66,14 +112,14 @@ function turned(points) {
   return flat.map(p => ({ x: flipX * p.x, y: flipY * p.y }));
 }
 
-// Puts the points into a sheet, as large as the sheet allows; one direction may be stretched by a third, on a narrow sheet to
-// the double.
-function fitted(points, sheet, margin) {
+// Puts the points into a sheet, as large as the sheet allows; one direction may be stretched by a third, on a narrow sheet
+// to the triple.
+export function fitted(points, sheet, margin) {
   const xs = points.map(p => p.x), ys = points.map(p => p.y);
   const left = Math.min(...xs), top = Math.min(...ys);
   const wide = Math.max(Math.max(...xs) - left, 1e-3), high = Math.max(Math.max(...ys) - top, 1e-3);
   const perX = (sheet.width - 2 * margin.x) / wide, perY = (sheet.height - 2 * margin.y) / high;
-  const most = Math.min(perX, perY) * (sheet.width < 700 ? 2 : 1.33), scaleX = Math.min(perX, most, 320), scaleY = Math.min(perY, most, 320);
+  const most = Math.min(perX, perY) * (sheet.width < 700 ? 3 : 1.33), scaleX = Math.min(perX, most, 320), scaleY = Math.min(perY, most, 320);
   return points.map(p => ({
     x: sheet.width / 2 + (p.x - left - wide / 2) * scaleX,
     y: sheet.height / 2 + (p.y - top - high / 2) * scaleY,
@@ -81,7 +127,7 @@ function fitted(points, sheet, margin) {
 }
 
 // Moves points apart that are nearer than `least`.
-function parted(points, least) {
+export function parted(points, least) {
   for (let round = 0; round < 40; round++) {
     let moved = false;
     for (let u = 0; u < points.length; u++) {
@@ -98,12 +144,12 @@ function parted(points, least) {
   return points;
 }
 
-function overlap(a, b) {
+export function overlap(a, b) {
   return a.x < b.x + b.w && b.x < a.x + a.w && a.y < b.y + b.h && b.y < a.y + a.h;
 }
 
 // Whether the line from p to q meets a box.
-function meets(p, q, box) {
+export function meets(p, q, box) {
   let from = 0, to = 1;
   for (const [start, way, low, high] of [[p.x, q.x - p.x, box.x, box.x + box.w], [p.y, q.y - p.y, box.y, box.y + box.h]]) {
     if (Math.abs(way) < 1e-9) {
@@ -118,42 +164,42 @@ function meets(p, q, box) {
 }
 
 // Of boxes the first with the least cost: its own, and what it hides of what is there, lines less than boxes.
-function leastHidden(boxes, taken, lines, sheet) {
+export function leastHidden(boxes, taken, lines, sheet, perLine = 1) {
   let best = null, least = Infinity;
   for (const box of boxes) {
     let cost = box.cost;
     if (box.x < 0 || box.y < 0 || box.x + box.w > sheet.width || box.y + box.h > sheet.height) cost += 200;
     for (const other of taken) if (overlap(box, other)) cost += 40;
-    for (const [p, q] of lines) if (cost < least && meets(p, q, box)) cost += 1;
+    for (const [p, q] of lines) if (cost < least && meets(p, q, box)) cost += perLine;
     if (cost < least) { best = box; least = cost; }
   }
   return best;
 }
 
 // A name, cut where it is longer than there is room for.
-function shortName(name, most = 16) {
+export function shortName(name, most = 16) {
   return name.length > most ? name.slice(0, most - 1) + "\u2026" : name;
 }
 
-const NODE = 7, TOKEN = 10, FONT = 14;
+export const NODE = 7, TOKEN = 10, FONT = 14;
 
-// Where each name stands: beside its node, on the side where it hides least.
-function namePlaces(graph, points, lines, sheet, taken) {
+// Where each name is: beside its node, on the side where it hides least.
+export function namePlaces(graph, points, lines, sheet, taken, room = TOKEN, perLine = 1) {
   return points.map((p, u) => {
     const w = shortName(graph.names[u]).length * FONT * 0.58 + 4, h = FONT + 3, boxes = [];
-    for (const off of [TOKEN + 3, TOKEN + 15]) {
+    for (const off of [room + 3, room + 15]) {
       for (const [x, y] of [[1, 0], [-1, 0], [0, -1], [0, 1], [0.7, -0.8], [-0.7, -0.8], [0.7, 0.8], [-0.7, 0.8]]) {
-        boxes.push({ x: p.x + x * off + w * (Math.sign(x) - 1) / 2, y: p.y + y * (off + h / 2) - h / 2, w, h, cost: off > TOKEN + 3 ? 4 : 0 });
+        boxes.push({ x: p.x + x * off + w * (Math.sign(x) - 1) / 2, y: p.y + y * (off + h / 2) - h / 2, w, h, cost: off > room + 3 ? 4 : 0 });
       }
     }
-    const box = leastHidden(boxes, taken, lines, sheet);
+    const box = leastHidden(boxes, taken, lines, sheet, perLine);
     taken.push(box);
     return { x: box.x + w / 2, y: box.y + h - 4, angle: Math.atan2(box.y + h / 2 - p.y, box.x + w / 2 - p.x) };
   });
 }
 
-// Where each weight stands: on its link, where it hides least.
-function weightPlaces(graph, points, lines, sheet, taken) {
+// Where each weight is: on its link, where it hides least.
+export function weightPlaces(graph, points, lines, sheet, taken) {
   return graph.links.map(({ u, v, weight }, i) => {
     const w = String(weight).length * 6.4 + 4, h = 13, others = lines.filter((_, j) => j !== i);
     const boxes = [0.5, 0.42, 0.58, 0.35, 0.65, 0.28, 0.72].map(t => ({
@@ -166,28 +212,36 @@ function weightPlaces(graph, points, lines, sheet, taken) {
 }
 
 // The whole drawing: { sheet, points, names, weights, taken, lines }; no names or weights where there are too many to be read.
-// The nodes stand at the points that are given.
-function arranged(graph, sheet, points) {
-  const lines = graph.links.map(({ u, v }) => [points[u], points[v]]);
-  const taken = points.map(p => ({ x: p.x - NODE - 1, y: p.y - NODE - 1, w: 2 * NODE + 2, h: 2 * NODE + 2 }));
-  const names = points.length > 300 ? null : namePlaces(graph, points, lines, sheet, taken);
+// The nodes stand at the points that are given, each with so much `room` round it, and some `above` it.
+export function arranged(graph, sheet, points, { room = points.length > 64 ? TOKEN : 20, above = 0, perLine = 1 } = {}) {
+  const lines = graph.links.map(({ u, v }) => [points[u], points[v]]), half = above > 0 ? room : NODE + 1;
+  const taken = points.map(p => ({ x: p.x - half, y: p.y - half - above, w: 2 * half, h: 2 * half + above }));
+  const names = points.length > 300 ? null : namePlaces(graph, points, lines, sheet, taken, room, perLine);
   const weights = graph.links.length > 400 ? null : weightPlaces(graph, points, lines, sheet, taken);
   return { sheet, points, names, weights, taken, lines };
 }
 
+// The sheet without what is empty above and below the points, which move with it.
+export function cropped(sheet, points, margin) {
+  const ys = points.map(p => p.y), top = ys.reduce((a, b) => Math.min(a, b)), height = ys.reduce((a, b) => Math.max(a, b)) - top + 2 * margin;
+  const least = Math.max(height, 0.36 * sheet.width), by = margin - top + (least - height) / 2;
+  for (const p of points) p.y += by;
+  return { width: sheet.width, height: least };
+}
+
 // The same with the nodes at the places that are given, as far as the sheet allows, else at places that are found here.
-function placed(graph, hops, width, given) {
+export function placed(graph, hops, width, given, around = {}) {
   const n = graph.names.length, grow = Math.min(3, Math.max(1, Math.sqrt(n / 40)));
-  const sheet = { width: width * grow, height: width * grow * (width < 700 ? 0.85 : 0.62) };
+  const sheet = { width: width * grow, height: width * grow * (width < 700 ? 0.95 : 0.62) };
   const longest = graph.names.reduce((most, name) => Math.max(most, shortName(name).length), 0);
-  const margin = { x: 24 + longest * 5, y: 40 };
+  const margin = { x: 24 + longest * 5, y: 40 + (around.above || 0) / 2 };
   const points = n === 1 ? [{ x: sheet.width / 2, y: sheet.height / 2 }]
-    : parted(fitted(given || turned(leastStress(hops)), sheet, margin), n > 300 ? 14 : 26);
-  return arranged(graph, sheet, points);
+    : parted(fitted(given || gridOf(graph) || layersOf(graph) || turned(leastStress(hops())), sheet, margin), n > 300 ? 11 : 26);
+  return arranged(graph, cropped(sheet, points, margin.y), points, around);
 }
 
 // Where texts of some nodes stand: beside their nodes, where they hide least. A text is { node, said }.
-function textPlaces({ sheet, points, taken, lines }, all) {
+export function textPlaces({ sheet, points, taken, lines }, all) {
   const now = [...taken];
   return all.map(({ node, said }) => {
     const w = said.length * 6.9 + 4, h = 15, p = points[node], boxes = [];

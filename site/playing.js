@@ -1,15 +1,16 @@
-"use strict";
-// Which packet stands where at each step. Nothing here draws.
+// Which packet is where at each step. Nothing here draws.
+import { pairOf } from "./reading.js";
+import { TOKEN } from "./placing.js";
 
-// The places where a packet stands, one after another: a node and an epoch. At a restamp the node stays.
-function stationsOf(row) {
+// The places where a packet is, one after another: a node and an epoch. At a restamp the node stays.
+export function stationsOf(row) {
   const stations = [];
   for (const { epoch, hops } of row.segments) for (const node of hops) stations.push({ node, epoch });
   return stations;
 }
 
 // Packets with their stations, the step at which each comes to each of them, and the step from which it has ended.
-function scheduled(rows, inTurn) {
+export function scheduled(rows, inTurn) {
   let next = 0;
   return rows.map(row => {
     const stations = stationsOf(row), start = inTurn ? next : 0;
@@ -18,12 +19,12 @@ function scheduled(rows, inTurn) {
   });
 }
 
-function lastStep(packets) {
+export function lastStep(packets) {
   return packets.reduce((most, packet) => Math.max(most, packet.ends), 0);
 }
 
 // How many of these numbers, which ascend, are at most `most`.
-function countUpTo(numbers, most) {
+export function countUpTo(numbers, most) {
   let low = 0, high = numbers.length;
   while (low < high) {
     const middle = (low + high) >> 1;
@@ -33,15 +34,15 @@ function countUpTo(numbers, most) {
   return low;
 }
 
-// Where a packet stands at a step: null before its first; `passed` stations lie behind it and under it.
-function standing(packet, step) {
+// Where a packet is at a step: null before its first. It has come to `passed` stations.
+export function standing(packet, step) {
   const passed = countUpTo(packet.times, step);
   if (passed === 0) return null;
   return { ...packet.stations[passed - 1], passed, ended: step >= packet.ends };
 }
 
 // Whether the links that are up join all nodes.
-function joined(graph, down) {
+export function joined(graph, down) {
   const near = graph.names.map(() => []), seen = new Set([0]), queue = [0];
   for (const { u, v } of graph.links) if (!down.has(pairOf(u, v))) { near[u].push(v); near[v].push(u); }
   for (const u of queue) for (const v of near[u]) if (!seen.has(v)) { seen.add(v); queue.push(v); }
@@ -49,15 +50,15 @@ function joined(graph, down) {
 }
 
 // A queue of a map, made where there is none.
-function queueAt(queues, key) {
+export function queueAt(queues, key) {
   if (!queues.has(key)) queues.set(key, []);
   return queues.get(key);
 }
 
 // Plays a script beside a trace: which packet goes on at which line. Lines take a step each, `inject` lines that follow one
 // another one step together, and `take` and `read` none; a drain takes a step for each hop, which all packets under way make
-// together. Where a packet goes the trace tells. A moment is { step, line, text, said, refused, epochs, floor, down }.
-class Player {
+// together. Where a packet goes is what the trace says. A moment is { step, line, text, said, refused, epochs, floor, down }.
+export class Player {
   constructor(graph, rows, commands) {
     this.graph = graph;
     this.packets = rows.map(row => ({ row, stations: stationsOf(row), times: [], ends: Infinity }));
@@ -67,9 +68,16 @@ class Player {
     this.hands = new Map();
     this.step = 0;
     this.now = { epochs: 1, floor: 1, down: new Set() };
+    this.changes = 0;
     this.moments = [];
+    this.lines = [];
+    this.drained = new Map();
     this.told({ line: 0, text: "" }, "the opening: epoch 1");
-    for (const command of commands) this.play(command);
+    for (const command of commands) {
+      this.play(command);
+      if (command.name === "drain") this.drained.set(command.line, this.step);
+      else this.lines.push({ step: this.step, line: command.text, number: command.line });
+    }
     this.finish();
   }
 
@@ -77,10 +85,16 @@ class Player {
     this.moments.push({ step: this.step, line: command.line, name: command.name, text: command.text, said, refused: Boolean(refused), ...this.now });
   }
 
+  // Notes a line that is done by this step.
+  wrote(line) {
+    this.lines.push({ step: this.step, line });
+  }
+
   // A change takes a step, also where it is refused.
   change(command, refusal, next, said) {
     this.step += 1;
     if (!refusal) this.now = { ...this.now, ...next };
+    if (!refusal && command.name !== "learn") this.changes += 1;
     this.told(command, refusal ? "refused: " + refusal : said, refusal);
   }
 
@@ -156,43 +170,97 @@ class Player {
   drain(command) {
     this.step += 1;
     this.told(command, "every packet goes on until none moves");
-    this.carry(this.packets.filter(packet => packet.times.length > 0 && packet.ends === Infinity));
+    this.carry(this.packets.filter(packet => packet.times.length > 0 && packet.ends === Infinity), true);
     for (const queues of [this.inboxes, this.channels, this.hands]) queues.clear();
   }
 
-  // All of these packets go on together, a station a step, until each has ended.
-  carry(under) {
+  // Which packets are in hands and queues, in the order in which they are taken: { packet, node, from }, where `from` is null
+  // in a hand, and -1 in an inbox.
+  waitingPackets() {
+    const all = [...this.hands].map(([node, packet]) => ({ packet, node, from: null }));
+    for (const [node, queue] of this.inboxes) for (const packet of queue) all.push({ packet, node, from: -1 });
+    for (const [key, queue] of this.channels) {
+      const [from, node] = key.split(" ").map(Number);
+      for (const packet of queue) all.push({ packet, node, from });
+    }
+    return all;
+  }
+
+  // All of these packets go on together, a station a step, until each has ended. What a node does with one is noted as lines,
+  // at a new stamp once for both stations there.
+  carry(under, isNoted) {
+    let held = new Map();
     for (let left = under; left.length > 0; this.step += 1) {
-      for (const packet of left) this.goOn(packet);
+      const queued = this.waitingPackets().filter(({ packet }) => left.includes(packet)), next = new Map();
+      for (const queues of [this.inboxes, this.channels, this.hands]) queues.clear();
+      const others = left.filter(packet => !queued.some(it => it.packet === packet)).map(packet => ({ packet, node: held.get(packet) }));
+      for (const { packet, node, from } of [...others, ...queued]) {
+        if (from !== undefined && isNoted) this.noteHop(node, from);
+        if (!this.goOn(packet) || node === undefined) continue;
+        if (this.placeOf(packet) === node) next.set(packet, node);
+        else queueAt(this.channels, node + " " + this.placeOf(packet)).push(packet);
+      }
+      held = next;
       left = left.filter(packet => packet.ends === Infinity);
       if (left.length === 0) return;
     }
   }
 
-  // Behind the last line: what the trace tells further, and packets that no line injected.
+  noteHop(node, from) {
+    const { names } = this.graph;
+    if (from !== null) this.wrote(`take ${names[node]} ${from < 0 ? "inbox" : "from " + names[from]}`);
+    this.wrote(`read ${names[node]} ${this.changes}`);
+    this.wrote(`act ${names[node]}`);
+  }
+
+  // The lines that do what was done up to a step: those of the script, and for a drain what its nodes did.
+  linesUpTo(step) {
+    return this.lines.filter(it => it.step <= step).map(it => it.line);
+  }
+
+  // After the last line: what else the trace says, and packets that no line injected.
   finish() {
     const left = this.packets.filter(packet => packet.ends === Infinity);
     if (left.length === 0) return;
     this.step += 1;
-    this.told({ line: 0, text: "" }, "behind the last line");
+    this.told({ line: 0, text: "" }, "after the last line");
     for (const packet of this.waiting) packet.times.push(this.step);
     this.step += this.waiting.length > 0 ? 1 : 0;
-    this.carry(left);
+    this.carry(left, false);
   }
 }
 
-// The moment that stands at a step.
-function momentAt(moments, step) {
+// The moment of a step.
+export function momentAt(moments, step) {
   return moments[Math.max(0, countUpTo(moments.map(moment => moment.step), step) - 1)];
 }
 
 // The interval of a node's row that holds a label.
-function intervalFor(row, label) {
+export function intervalFor(row, label) {
   return row.intervals.filter(({ start }) => start <= label).pop() || row.intervals[row.intervals.length - 1];
 }
 
+// The walk of a plan from one node to another, as the engine's `walk` has it: { weight, hops } with the node, label, interval,
+// port and weight of each.
+export function walkAlong(plan, graph, from, to) {
+  const goal = plan.rows[to].label, hops = [];
+  let weight = 0, node = from;
+  while (hops.length < graph.names.length) {
+    const row = plan.rows[node], at = { node: graph.names[node], label: row.label };
+    if (row.label === goal) {
+      hops.push(at);
+      break;
+    }
+    const found = intervalFor(row, goal), edge = graph.edges.get(pairOf(node, found.to));
+    hops.push({ ...at, start: found.start, end: found.end, to: graph.names[found.to], weight: edge.weight });
+    weight += edge.weight;
+    node = found.to;
+  }
+  return { count: hops.length - 1, weight, hops };
+}
+
 // For each station of a packet what the plan of its epoch says: { node, epoch, said, astray }, or null without that plan.
-function matchesOf(packet, plans, names) {
+export function matchesOf(packet, plans, names) {
   const { dest } = packet.row;
   return packet.stations.map(({ node, epoch }, i) => {
     const rows = plans[epoch - 1] ? plans[epoch - 1].rows : [], row = rows[node], goal = rows[dest];
@@ -204,10 +272,10 @@ function matchesOf(packet, plans, names) {
   });
 }
 
-const MOST_APART = 8;
+export const MOST_APART = 8;
 
 // What is drawn as one of the packets at a node: each by itself where they are few, else those of one epoch and fate.
-function groupsOf(packets, places, crowd, chosen) {
+export function groupsOf(packets, places, crowd, chosen) {
   const groups = new Map();
   for (const i of crowd) {
     const alone = crowd.length <= MOST_APART || i === chosen;
@@ -218,8 +286,8 @@ function groupsOf(packets, places, crowd, chosen) {
   return [...groups.values()];
 }
 
-// Where the k-th of so many tokens at a node is drawn: round it, with room for its name, which stands in the direction `name`.
-function fanned(k, count, name) {
+// Where the k-th of so many tokens at a node is drawn: round it, with room for its name, which is in the direction `name`.
+export function fanned(k, count, name) {
   if (count === 1) return { dx: 0, dy: 0 };
   const far = TOKEN * 1.05 / Math.sin(Math.PI / count), turn = name + 2 * Math.PI * (k + 0.5) / count;
   const away = Math.max(0, far * Math.cos(Math.PI / count) - 2);
@@ -227,7 +295,7 @@ function fanned(k, count, name) {
 }
 
 // For each packet its token at a step, which may stand for others too; null for those others, and before its first step.
-function tokensAt(packets, { points, names }, step, chosen) {
+export function tokensAt(packets, { points, names }, step, chosen) {
   const places = packets.map(packet => standing(packet, step)), tokens = places.map(() => null), crowds = new Map();
   places.forEach((place, i) => {
     if (!place) return;
@@ -243,8 +311,8 @@ function tokensAt(packets, { points, names }, step, chosen) {
   return tokens;
 }
 
-// The ways behind packets, each pair of nodes once for each epoch: pairs with their epochs.
-function trailsAt(packets, step) {
+// The ways that packets went, each pair of nodes once for each epoch: pairs with their epochs.
+export function trailsAt(packets, step) {
   const trails = new Map();
   for (const packet of packets) {
     const place = standing(packet, step);
@@ -258,16 +326,16 @@ function trailsAt(packets, step) {
   return [...trails.values()];
 }
 
-function epochsOf(rows, moments) {
+export function epochsOf(rows, moments) {
   const epochs = new Set();
   for (let epoch = 1; moments.length > 0 && epoch <= moments[moments.length - 1].epochs; epoch++) epochs.add(epoch);
   for (const row of rows) for (const segment of row.segments) epochs.add(segment.epoch);
   return [...epochs].sort((a, b) => a - b);
 }
 
-const COLOURS = ["#2b6fd6", "#c75d00", "#1b8049", "#8f4bc9", "#c7305f", "#0b8290", "#96602f", "#6c7200"];
+// The colours of epochs that the style sheet has; after them they begin again.
+const MOST_COLOURS = 8;
 
-function colourOf(epochs, epoch) {
-  const i = epochs.indexOf(epoch);
-  return i < COLOURS.length ? COLOURS[i] : `hsl(${Math.round(i * 137.508) % 360}, 60%, 44%)`;
+export function colourOf(epochs, epoch) {
+  return `var(--epoch-${epochs.indexOf(epoch) % MOST_COLOURS + 1})`;
 }

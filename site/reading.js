@@ -1,20 +1,19 @@
-"use strict";
 // Texts into graphs and traces, as `route` reads them. Nothing here draws.
 
-const MOST_NODES = 16384, MOST_EDGES = 65536, MOST_NAME = 64, MOST_WEIGHT = 65535, MOST_NUMBER = 4294967295;
-const MOST_SEGMENTS = 4, MOST_BYTES = 16777216;
+export const MOST_NODES = 16384, MOST_EDGES = 65536, MOST_NAME = 64, MOST_WEIGHT = 65535, MOST_NUMBER = 4294967295;
+export const MOST_SEGMENTS = 4, MOST_BYTES = 16777216;
 // Where packets travel.
-const MOST_NET_NODES = 1024, MOST_NET_LINKS = 8192;
+export const MOST_NET_NODES = 1024, MOST_NET_LINKS = 8192;
 // More nodes are read and not drawn.
-const MOST_DRAWN = 1024;
+export const MOST_DRAWN = 1024;
 
 // What is wrong with a line, in the program's words.
-class Fault {
+export class Fault {
   constructor(kind) { this.kind = kind; }
 }
 
 // Calls `read(line, number)` on each line, and answers the first fault with its line's number, or null.
-function firstFault(lines, from, read) {
+export function firstFault(lines, from, read) {
   for (let i = 0; i < lines.length; i++) {
     try {
       read(lines[i]);
@@ -26,47 +25,47 @@ function firstFault(lines, from, read) {
   return null;
 }
 
-function wordsOf(line) {
+export function wordsOf(line) {
   const comment = line.indexOf("#");
   const plain = comment < 0 ? line : line.slice(0, comment);
   if (!/^[\t\v\f\r -~]*$/.test(plain)) throw new Fault("BadByte");
   return plain.split(/[\t\v\f\r ]+/).filter(word => word !== "");
 }
 
-function checkNames(words) {
+export function checkNames(words) {
   if (words.some(word => word.length > MOST_NAME)) throw new Fault("BadName");
 }
 
-function pairOf(u, v) {
+export function pairOf(u, v) {
   return Math.min(u, v) * MOST_NODES + Math.max(u, v);
 }
 
-function addNode(graph, name) {
+export function addNode(graph, name) {
   if (graph.numbers.has(name)) return graph.numbers.get(name);
   if (graph.names.length === MOST_NODES) throw new Fault("TooManyNodes");
   graph.numbers.set(name, graph.names.length);
   return graph.names.push(name) - 1;
 }
 
-function addEdge(graph, source, target, weight) {
+export function addEdge(graph, source, target, weight) {
   const u = addNode(graph, source), v = addNode(graph, target);
   if (!graph.edges.has(pairOf(u, v)) && graph.edges.size === MOST_EDGES) throw new Fault("TooManyEdges");
   graph.edges.set(pairOf(u, v), { u, v, weight });
 }
 
-function weightOf(word) {
+export function weightOf(word) {
   const weight = /^[0-9]+(\.0+)?$/.test(word) ? Number(word) : 0;
   if (weight < 1 || weight > MOST_WEIGHT) throw new Fault("BadWeight");
   return weight;
 }
 
-function addNeighbours(graph, words) {
+export function addNeighbours(graph, words) {
   checkNames(words);
   if (words.length > 0) addNode(graph, words[0]);
   for (const target of words.slice(1)) addEdge(graph, words[0], target, 1);
 }
 
-function addWeighted(graph, words) {
+export function addWeighted(graph, words) {
   if (words.length < 2) return;
   checkNames(words.slice(0, 2));
   if (words.length !== 3) throw new Fault("BadRow");
@@ -74,7 +73,7 @@ function addWeighted(graph, words) {
 }
 
 // A topology's text: { graph, fault }. A graph has `names` in order, the `numbers` of the names, and `edges` by pair.
-function readTopology(text, format) {
+export function readTopology(text, format) {
   const graph = { names: [], numbers: new Map(), edges: new Map() };
   const add = format === "edgelist" ? addWeighted : addNeighbours;
   const fault = firstFault(text.split("\n"), 1, line => add(graph, wordsOf(line)));
@@ -82,17 +81,17 @@ function readTopology(text, format) {
   return { graph, fault };
 }
 
-function areLinked(graph, u, v) {
+export function areLinked(graph, u, v) {
   return u !== v && graph.edges.has(pairOf(u, v));
 }
 
-function numberOf(word) {
+export function numberOf(word) {
   if (!/^(0|[1-9][0-9]*)$/.test(word) || Number(word) > MOST_NUMBER) throw new Fault("BadRow");
   return Number(word);
 }
 
 // Takes the fate, with its names, from the front of the words.
-function takeFate(words) {
+export function takeFate(words) {
   const fate = words.shift();
   if (["delivered", "retired", "left"].includes(fate)) return [fate];
   if (["down", "full"].includes(fate) && words.length >= 2) return [fate, words.shift(), words.shift()];
@@ -100,7 +99,7 @@ function takeFate(words) {
 }
 
 // The words of segments as their epochs and names of hops.
-function segmentsOf(words) {
+export function segmentsOf(words) {
   const segments = [];
   for (const word of words) {
     if (word[0] === "#") segments.push({ epoch: numberOf(word.slice(1)), hops: [] });
@@ -112,7 +111,7 @@ function segmentsOf(words) {
 }
 
 // A row as its words spell it, still with names.
-function spelled(version, line) {
+export function spelled(version, line) {
   const words = line.split(" ");
   if (!words.every(word => /^[!-~]+$/.test(word))) throw new Fault("BadRow");
   if (words.length < (version === 1 ? 6 : 5)) throw new Fault("BadRow");
@@ -125,13 +124,13 @@ function spelled(version, line) {
   return { id, source, dest, weight, fate, segments };
 }
 
-function nodeNamed(graph, name) {
+export function nodeNamed(graph, name) {
   if (!graph.numbers.has(name)) throw new Fault("UnknownNode");
   return graph.numbers.get(name);
 }
 
 // The row with numbers for names.
-function resolved(graph, row) {
+export function resolved(graph, row) {
   const ends = row.fate.slice(1).map(name => nodeNamed(graph, name));
   if (ends.length === 2 && !areLinked(graph, ends[0], ends[1])) throw new Fault("UnknownNode");
   if (row.fate[0] === "down" && ends[0] > ends[1]) throw new Fault("UnknownNode");
@@ -143,7 +142,7 @@ function resolved(graph, row) {
 }
 
 // A trace's text over a graph: { version, rows, fault }.
-function readTrace(text, graph) {
+export function readTrace(text, graph) {
   const header = /^trace ([12])\n/.exec(text);
   if (header === null) return { version: 0, rows: [], fault: { line: 1, kind: "NotTrace" } };
   const version = Number(header[1]), rows = [];
@@ -154,23 +153,23 @@ function readTrace(text, graph) {
   return { version, rows, fault };
 }
 
-// What stands behind the first word of each line of a script: a node, a fixed word, a number; `kind` is a kind of plan.
-const COMMANDS = {
+// What follows the first word of each line of a script: a node, a fixed word, a number; `kind` is a kind of plan.
+export const COMMANDS = {
   inject: ["node", "node"], drain: [], down: ["node", "node"], up: ["node", "node"], install: ["kind", "node"], retire: ["number"],
   learn: ["number"], read: ["node", "number"], act: ["node"], take: ["node", "from", "node"], "take inbox": ["node", "inbox"],
 };
 
-function scriptNumber(word) {
+export function scriptNumber(word) {
   if (!/^[0-9]{1,5}$/.test(word) || Number(word) > MOST_WEIGHT) throw new Fault("BadNumber");
   return Number(word);
 }
 
 // A line of a script as its name and its operands.
-function commandOf(graph, words) {
+export function commandOf(graph, words) {
   const name = words[0] === "take" && words.length === 3 ? "take inbox" : words[0], wanted = COMMANDS[name];
   if (!Object.hasOwn(COMMANDS, name) || wanted.length !== words.length - 1) throw new Fault("BadCommand");
   words.slice(1).forEach((word, i) => {
-    const fits = wanted[i] === "kind" ? ["tree", "shortest", "compact"].includes(word) : !["from", "inbox"].includes(wanted[i]) || wanted[i] === word;
+    const fits = wanted[i] === "kind" ? ["tree", "shortest", "compact", "landmark"].includes(word) : !["from", "inbox"].includes(wanted[i]) || wanted[i] === word;
     if (!fits) throw new Fault("BadCommand");
   });
   const given = words.slice(1).map((word, i) => wanted[i] === "number" ? scriptNumber(word) : wanted[i] === "node" ? nodeNamed(graph, word) : word);
@@ -180,7 +179,7 @@ function commandOf(graph, words) {
 }
 
 // A script's text over a graph: { commands, fault }; each command has its line.
-function readScript(text, graph) {
+export function readScript(text, graph) {
   const commands = [];
   let number = 0;
   const fault = firstFault(text.split("\n"), 1, line => {
@@ -192,7 +191,7 @@ function readScript(text, graph) {
 }
 
 // A node's line of a plan: its label and its intervals, by ascending starts.
-function planRow(graph, words) {
+export function planRow(graph, words) {
   if (words.length < 2 || words.length % 2 !== 0) throw new Fault("BadRow");
   const intervals = [];
   for (let i = 2; i < words.length; i += 2) intervals.push({ start: numberOf(words[i]), to: nodeNamed(graph, words[i + 1]) });
@@ -200,13 +199,13 @@ function planRow(graph, words) {
   return { node: nodeNamed(graph, words[0]), label: numberOf(words[1]), intervals };
 }
 
-// Plans, one behind the other, over a graph: { plans, fault }. A plan has for each node its row.
-function readPlans(text, graph) {
+// Plans, one after the other, over a graph: { plans, fault }. A plan has for each node its row.
+export function readPlans(text, graph) {
   const plans = [];
   const fault = firstFault(text.split("\n"), 1, line => {
     const words = line.split(/[\r ]+/).filter(word => word !== "");
     if (words.length === 0) return;
-    if (words[0] === "plan" && words.length === 4 && /^(tree|shortest|compact)$/.test(words[1])) {
+    if (words[0] === "plan" && words.length === 4 && /^(tree|shortest|compact|landmark)$/.test(words[1])) {
       plans.push({ kind: words[1], rows: [] });
       return;
     }
@@ -218,7 +217,7 @@ function readPlans(text, graph) {
 }
 
 // Places over a graph: { points, fault }; no points where there is no text.
-function readPlaces(text, graph) {
+export function readPlaces(text, graph) {
   const points = graph.names.map(() => null);
   let some = false;
   const fault = firstFault(text.split("\n"), 1, line => {
@@ -231,4 +230,36 @@ function readPlaces(text, graph) {
     some = true;
   });
   return { points: some ? points : null, fault };
+}
+
+// The lines of a text that say something, without their comments.
+export function plainLines(text) {
+  return text.split("\n").map(line => line.split("#")[0].trim()).filter(line => line !== "");
+}
+
+// The format that the lines of a text have: a weighted edge list where each has two nodes and a number. What NetworkX writes
+// as an adjacency list begins with a date.
+export function formatOf(text) {
+  const lines = plainLines(text), isDated = /^#.*\n#\s*GMT /.test(text);
+  return !isDated && lines.length > 0 && lines.every(line => /^\S+\s+\S+\s+[0-9]+(\.[0-9]*)?$/.test(line)) ? "edgelist" : "adjlist";
+}
+
+// A pasted text with blanks between words: commas, and what NetworkX and others write after an edge, as {'weight': 3}, are no
+// words of a list here. Edges without a weight among weighted ones get 1.
+export function tidied(text) {
+  const lines = plainLines(text);
+  if (lines.length === 0) return text;
+  if (lines.every(line => /^[^,\s]+(\s*[,;]\s*[^,\s]+)+$/.test(line))) return tidied(text.replace(/[,;]/g, " "));
+  if (!lines.every(line => /^\S+\s+\S+\s+\{.*\}$/.test(line))) return text;
+  const weights = lines.map(line => /["']weight["']:\s*([0-9.]+)/.exec(line)), isWeighted = weights.some(Boolean);
+  return lines.map((line, i) => line.split(/\s+/, 2).join(" ") + (isWeighted ? " " + (weights[i] ? weights[i][1] : 1) : "")).join("\n") + "\n";
+}
+
+// The numbers of the first lines of a topology that can't be read, each by itself.
+export function faultLines(text, format, most) {
+  const found = [], lines = text.split("\n"), graph = () => ({ names: [], numbers: new Map(), edges: new Map() });
+  for (let i = 0; i < lines.length && found.length < most; i++) {
+    if (firstFault([lines[i]], i + 1, line => (format === "edgelist" ? addWeighted : addNeighbours)(graph(), wordsOf(line)))) found.push(i + 1);
+  }
+  return found;
 }

@@ -1,4 +1,6 @@
 // The engine in a thread of its own: each message is a call, or the module to begin with.
+import { Engine } from "./engine.js";
+
 let engine = null;
 self.onmessage = async ({ data: { id, module, most, words, texts } }) => {
   try {

@@ -1,19 +1,18 @@
-"use strict";
 // A Chromium without a window, driven by its DevTools port: real clicks and keys, in real time. No package is wanted.
-const { spawn } = require("child_process");
-const crypto = require("crypto");
-const fs = require("fs");
-const net = require("net");
-const os = require("os");
-const path = require("path");
+import { spawn } from "node:child_process";
+import crypto from "node:crypto";
+import fs from "node:fs";
+import net from "node:net";
+import os from "node:os";
+import path from "node:path";
 
-const pause = time => new Promise(done => setTimeout(done, time));
+export const pause = time => new Promise(done => setTimeout(done, time));
 
 // How many seconds is waited for what has to come: generous, as the machine may be busy.
-const MOST = Number(process.env.LAB_SECONDS || 180);
+export const MOST = Number(process.env.LAB_SECONDS || 180);
 
 // What a call answers, made again until it answers something, or has not for too long.
-async function answered(call, what) {
+export async function answered(call, what) {
   let why = "";
   for (const end = Date.now() + MOST * 1000; Date.now() < end; await pause(100)) {
     try {
@@ -41,10 +40,10 @@ function frameAt(buffer) {
   const short = buffer[1] & 127, start = short === 126 ? 4 : short === 127 ? 10 : 2;
   if (buffer.length < start) return null;
   const size = short === 126 ? buffer.readUInt16BE(2) : short === 127 ? Number(buffer.readBigUInt64BE(2)) : short;
-  return buffer.length < start + size ? null : { start, size, isLast: Boolean(buffer[0] & 128) };
+  return buffer.length < start + size ? null : { start, size, isLast: Boolean(buffer[0] & 128), kind: buffer[0] & 15 };
 }
 
-class Browser {
+export class Browser {
   static async open(url, width = 1400, height = 1000, flags = []) {
     const it = new Browser();
     it.profile = fs.mkdtempSync(path.join(os.tmpdir(), "lab-"));
@@ -65,7 +64,14 @@ class Browser {
 
   async connect(port) {
     const target = await answered(async () => (await (await fetch(`http://127.0.0.1:${port}/json`)).json()).find(it => it.type === "page"), "the page");
-    const url = new URL(target.webSocketDebuggerUrl);
+    await this.join(new URL(target.webSocketDebuggerUrl));
+    await this.send("Runtime.enable");
+    await this.send("Log.enable");
+    await this.send("Network.enable");
+  }
+
+  // A WebSocket to the browser.
+  async join(url) {
     this.socket = net.connect(url.port, url.hostname);
     this.socket.on("error", () => {});
     this.socket.on("close", () => this.waiting.forEach(({ lost }) => lost(new Error("the browser is gone"))));
@@ -74,9 +80,6 @@ class Browser {
     this.socket.write(`GET ${url.pathname} HTTP/1.1\r\nHost: ${url.host}\r\nUpgrade: websocket\r\nConnection: Upgrade\r\n`
       + `Sec-WebSocket-Key: ${crypto.randomBytes(16).toString("base64")}\r\nSec-WebSocket-Version: 13\r\n\r\n`);
     await new Promise(up => this.listen(up));
-    await this.send("Runtime.enable");
-    await this.send("Log.enable");
-    await this.send("Network.enable");
   }
 
   listen(up) {
@@ -91,8 +94,10 @@ class Browser {
         up();
       }
       for (let frame = frameAt(buffer); frame; frame = frameAt(buffer)) {
-        parts.push(buffer.subarray(frame.start, frame.start + frame.size));
+        const body = buffer.subarray(frame.start, frame.start + frame.size);
         buffer = buffer.subarray(frame.start + frame.size);
+        if (frame.kind > 2) continue;
+        parts.push(body);
         if (!frame.isLast) continue;
         this.told(JSON.parse(Buffer.concat(parts).toString()));
         parts = [];
@@ -179,8 +184,15 @@ class Browser {
     }
     this.socket.destroy();
     this.process.kill("SIGKILL");
-    fs.rmSync(this.profile, { recursive: true, force: true, maxRetries: 20, retryDelay: 200 });
+    this.clean();
+  }
+
+  // Takes the profile away.
+  clean() {
+    try {
+      fs.rmSync(this.profile, { recursive: true, force: true, maxRetries: 20, retryDelay: 200 });
+    } catch (error) {
+      console.error(`${this.profile} is left there: ${error.message}`);
+    }
   }
 }
-
-module.exports = { Browser };

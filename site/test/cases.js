@@ -1,10 +1,13 @@
-"use strict";
 // cases.js MODULE.wasm: each worked example of the program through the module. Told are those that differ, and how many agree.
-const fs = require("fs");
-const path = require("path");
+import fs from "node:fs";
+import path from "node:path";
+import { fileURLToPath } from "node:url";
+import { Engine } from "../engine.js";
+import { scriptAt } from "../network.js";
+import { Player, walkAlong } from "../playing.js";
+import { readPlans, readScript, readTopology, readTrace } from "../reading.js";
 
-const root = path.join(__dirname, "..", "..");
-const Engine = new Function(fs.readFileSync(path.join(root, "site/engine.js"), "utf8") + "; return Engine;")();
+const root = fileURLToPath(new URL("../..", import.meta.url));
 const cases = JSON.parse(fs.readFileSync(path.join(root, "crates/route_tests/data/cases.json"), "utf8"));
 
 function told(passed, name, why) {
@@ -42,6 +45,20 @@ function tryMemory(engine) {
   told(whole.status === 0 && text(whole.output).split("\n").length === 64 * 64 + 2, "an output longer than the first room", `${whole.status} ${whole.output.length}`);
 }
 
+// The page's walks along a plan are the engine's.
+function tryWalks(engine) {
+  const text = bytes => Buffer.from(bytes).toString(), topology = fs.readFileSync(path.join(root, "examples", "nsfnet.edgelist"), "utf8"), { graph } = readTopology(topology, "edgelist");
+  for (const kind of ["tree", "shortest", "compact"]) {
+    const words = ["--kind", kind, "--format", "edgelist"], [plan] = readPlans(text(engine.run(["plan", ...words, "topology"], topology).output), graph).plans;
+    const differs = graph.names.flatMap((from, u) => graph.names.map((to, v) => [from, to, u, v])).filter(([from, to, u, v]) => {
+      const { weight, hops } = walkAlong(plan, graph, u, v), wanted = text(engine.run(["walk", ...words, "--from", from, "--to", to, "topology"], topology).output);
+      const lines = hops.map(hop => [hop.node, hop.label, ...hop.to === undefined ? [] : [hop.start, hop.end, hop.to, hop.weight]].join(" "));
+      return wanted !== [`walk ${kind} ${from} ${to} ${plan.rows[v].label} ${weight}`, ...lines].join("\n") + "\n";
+    });
+    told(differs.length === 0, `the page's walks by ${kind}`, JSON.stringify(differs.slice(0, 3)));
+  }
+}
+
 function tryWords(engine) {
   const text = bytes => Buffer.from(bytes).toString();
   const bad = engine.run(["plan", "--kind", "fast", "network"], "a b\n");
@@ -52,11 +69,31 @@ function tryWords(engine) {
   told(said.status === 1 && /^topology 2 BadWeight\nroute: network:2: /.test(text(said.faults)), "a sentence behind a fault", text(said.faults));
 }
 
-(async () => {
+// What the playback shows at each of its steps are lines that the engine plays to the same end.
+function tryPlayback(engine) {
+  const text = bytes => Buffer.from(bytes).toString(), read = name => fs.readFileSync(path.join(root, "examples", name), "utf8");
+  const ring = Array.from({ length: 8 }, (_, i) => `n${i} n${(i + 1) % 8}\n`).join("");
+  const runs = [["relabel", read("nsfnet.edgelist"), "edgelist", read("relabel.script"), ["--kind", "tree", "--root", "Houston"]],
+    ["a ring", ring, "adjlist", "inject n0 n4\ninject n0 n5\ninject n4 n0\ntake n0 inbox\nact n0\ninject n1 n5\ndown n2 n3\ninstall tree n5\nlearn 2\ninject n0 n4\ndrain\n", []],
+    ["new stamps", ring, "adjlist", "inject n0 n4\ninject n5 n1\ntake n0 inbox\nact n0\ninstall tree n5\nretire 2\ndrain\ninject n3 n4\ndrain\n", ["--restamps", "2"]]];
+  for (const [name, topology, format, script, further] of runs) {
+    const { graph } = readTopology(topology, format), { commands } = readScript(script, graph);
+    const played = it => text(engine.run(["sim", "--format", format, ...further, "topology", "script"], topology, it).output), whole = played(script);
+    const { rows } = readTrace(whole, graph), { last } = { last: Math.max(...new Player(graph, rows, commands).packets.map(packet => packet.ends)) };
+    const differs = Array.from({ length: last + 2 }, (_, step) => step).filter(step => played(scriptAt(graph, rows, commands, step, []).text) !== whole);
+    told(differs.length === 0 && rows.length > 2, `the playback of ${name}`, `other ends from steps ${differs} of ${last}: ${differs.length > 0 ? played(scriptAt(graph, rows, commands, differs[0], []).text) + whole : ""}`);
+  }
+}
+
+async function main() {
   const engine = await Engine.of(fs.readFileSync(process.argv[2]));
   for (const it of cases.filter(({ words }) => words[0] !== "live")) tryCase(engine, it);
+  tryPlayback(engine);
+  tryWalks(engine);
   tryWords(engine);
   tryMemory(engine);
   console.log(`${counts[0]} passed, ${counts[1]} failed`);
   process.exitCode = counts[1] > 0 ? 1 : 0;
-})();
+}
+
+await main();
