@@ -110,12 +110,18 @@ function write_up(  i, j, k, ports) {
     }
 }
 
+# Whether each neighbour of a row is a node.
+function look(k,  i, j, words) {
+    i = split(row[k], words, " ")
+    for (j = 4; j <= i; j += 2) if (words[j] != "#" && !(words[j] in number)) refuse("no node " words[j])
+}
+
 function write_route(verb, prefix, neighbour,  part, where) {
     split(prefix, part, "/")
     where = address(part[1]) "/" 128 - bits + part[2]
-    if (neighbour == "-") print "route " verb " unreachable " where
+    if (neighbour == "#") print "route " verb " unreachable " where
     else print "route " verb " " where " via " link_local(number[neighbour]) " dev " port(number[neighbour])
-    if (guard && neighbour != "-") print "route " verb " unreachable " where " metric 4096"
+    if (guard && neighbour != "#") print "route " verb " unreachable " where " metric 4096"
 }
 
 function write_epoch(k,  i, j, words) {
@@ -151,6 +157,7 @@ END {
     if (refused) exit 2
     if (!of_topology && !head) refuse("there is no text")
     if (!of_topology && (count != nodes || lines != 0)) refuse("the text is cut short")
+    if (!of_topology) for (k = 1; k <= count; k++) look(k)
     if (only != "" && !(only in number)) refuse("no node " only)
     if (numbered) for (k = 1; k <= count; k++) print "# " k " is " names[k]
     if (act == "up") write_up()

@@ -52,7 +52,7 @@ function write_rules(k,  i, j, words, part, to) {
         ",actions=set_field:fd00::/ffff:ffff::->ipv6_dst,set_field:" hardware(k) "->eth_dst,output:" host
     for (i = 3; i < j; i += 2) {
         split(words[i], part, "/")
-        if (words[i + 1] == "-") to = "drop"
+        if (words[i + 1] == "#") to = "drop"
         else if (words[i + 1] in number) to = "dec_ttl,output:" number[words[i + 1]]
         else refuse("no node " words[i + 1])
         print "cookie=" epoch ",table=1,priority=" 100 + part[2] ",ipv6,ipv6_dst=" address(part[1]) "/" 128 - bits + part[2] ",actions=" to

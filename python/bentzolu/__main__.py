@@ -1,13 +1,16 @@
 """`python3 -m bentzolu COMMAND`: a network in another format as an edge list of `route`, its plan, its figures, or a lab."""
+from __future__ import annotations
+
 import argparse
 import sys
+from typing import Any, Callable, Sequence
 
-from . import __version__, commands, inside, lab, program
+from . import __version__, commands, fleet_words, inside, lab, program, sweep_words, xdp_words
 from .convert import READERS
 from .errors import BentzoluError
 
 
-def add_source(parser):
+def add_source(parser: argparse.ArgumentParser) -> None:
     """The words that say which network is read, and how."""
     parser.add_argument("file", metavar="FILE", help="the file of the network")
     formats = sorted(READERS)
@@ -18,13 +21,13 @@ def add_source(parser):
     parser.add_argument("-o", "--output", metavar="OUT", help="the file of the output; standard output by default")
 
 
-def add_convert(parser):
+def add_convert(parser: argparse.ArgumentParser) -> None:
     add_source(parser)
     parser.add_argument("--names", metavar="TABLE", help="a file for the table of names: a line NAME, tab, node as JSON for each node")
     parser.set_defaults(act=commands.convert)
 
 
-def add_shown(parser):
+def add_shown(parser: argparse.ArgumentParser) -> None:
     add_source(parser)
     parser.add_argument("--kind", default="shortest", choices=("shortest", "compact", "tree"), help="how packets are routed; by default shortest")
     parser.add_argument("--root", metavar="NAME", help="the node from which labels are numbered, by its name in route")
@@ -33,7 +36,7 @@ def add_shown(parser):
 
 
 # The subcommands: the name, what it does, and what adds its words to a parser. `act` of what was found is called, and answers the status or None.
-COMMANDS = [
+COMMANDS: list[tuple[str, str, Callable[[argparse.ArgumentParser], None]]] = [
     ("convert", "writes a network in another format as a weighted edge list", add_convert),
     ("plan", "prints the labels and intervals of a network in any format that convert reads", add_shown),
     ("stats", "prints the figures of the plan of a network in any format that convert reads", add_shown),
@@ -48,31 +51,36 @@ ABOUT = {
 class Version(argparse.Action):
     """Prints the version of the package, where the library is, and which program there is."""
 
-    def __call__(self, parser, *_):
+    def __call__(self, parser: argparse.ArgumentParser, *_: Any) -> None:
         print(f"bentzolu {__version__}")
         try:
-            if inside.library():
-                print(f"the library at {inside.library().path}, in this process")
+            library = inside.library()
+            if library:
+                print(f"the library at {library.path}, in this process")
             print(f"{program.version()} at {program.find()}")
         except BentzoluError as error:
             print(error)
         parser.exit(0)
 
 
-def words():
+def words() -> argparse.ArgumentParser:
     parser = argparse.ArgumentParser(prog="python3 -m bentzolu", description="Tools around route, interval routing with live relabelling.")
     parser.add_argument("--version", action=Version, nargs=0, help="prints the versions of the package and of the program that it calls")
     subparsers = parser.add_subparsers(dest="command", required=True, metavar="COMMAND")
     for name, what, add in COMMANDS:
         add(subparsers.add_parser(name, help=what, description=ABOUT.get(name, f"{what[0].upper()}{what[1:]}.")))
-    lab.add_words(subparsers)
+    add_lab: Any = lab.add_words  # the lab has no annotations yet
+    add_lab(subparsers)
+    fleet_words.add_words(subparsers)
+    sweep_words.add_words(subparsers)
+    xdp_words.add_words(subparsers)
     return parser
 
 
-def main(arguments=None):
+def main(arguments: Sequence[str] | None = None) -> int:
     found = words().parse_args(arguments)
     try:
-        return found.act(found) or 0
+        return int(found.act(found) or 0)
     except (BentzoluError, OSError) as error:
         print(f"bentzolu {found.command}: {error}", file=sys.stderr)
         return 1

@@ -5,89 +5,137 @@ What all calls take:
 - `graph`: a graph of NetworkX without directions; or a list of edges `(u, v)` or `(u, v, weight)`; or the path of a file,
   a `str` or a `pathlib.Path`, in any format that `python3 -m bentzolu convert` reads. The nodes of a file are strings,
   or what the file's format says that they are.
-- `kind`: `"shortest"` (shortest paths, the least port among ties), `"compact"` (shortest paths, ties broken for the fewest
-  intervals) or `"tree"` (along a depth-first tree).
-- `root`: the node from which labels are numbered; the first node by default.
-- `weight`: the name of the edges' attribute that is the weight, 1 where an edge has none; None for 1 everywhere.
-- `program`: the path of `route`; by default the library in this process answers where there is one (`bentzolu.inside`), and
-  else the program that `find_program` finds.
-- `timeout`: seconds, past which `subprocess.TimeoutExpired` is raised; a call with it goes to the program.
-- `words`: further words of the command line, as `("--numbering", "tour")`.
+- `kind`, `root`, and by name all other fields of `Options`; or these as one value, `options=Options(..)`.
 
 What the program refuses is a `RouteError`, with the sentence that says why.
 """
+from __future__ import annotations
+
 import os
-from concurrent.futures import ThreadPoolExecutor
+from concurrent.futures import Future, ThreadPoolExecutor
+from typing import Any, Iterable, Mapping, Sequence
 
 from . import drawing, program as programs, texts
 from .errors import GraphError
-from .label_ranges import read_ranges
-from .sources import read_text, script_of, topology_of
+from .label_ranges import Range, read_ranges
+from .options import Options, chosen
+from .sources import Topology, read_text, script_of, topology_of
+from .typed import Axes, NameTable, Network
 
 
-def options(topology, kind, root, words):
+def options(topology: Topology, kind: str, root: Any, words: Sequence[str]) -> list[str]:
     """The words of the options that all subcommands have."""
-    chosen = ["--kind", str(kind)]
+    found = ["--kind", str(kind)]
     if "--format" not in words:
-        chosen = [*topology.options, *chosen]
+        found = [*topology.options, *found]
     if root is not None:
-        chosen.append(f"--root={topology.names.name(root)}")
-    return [*chosen, *map(str, words)]
+        found.append(f"--root={topology.names.name(root)}")
+    return [*found, *map(str, words)]
 
 
-def ask(subcommand, graph, kind, root, weight, program, timeout, words, ends=None):
-    """What a subcommand prints that takes a topology alone, and the names of the nodes."""
+def ask(
+    subcommand: str, graph: Network, kind: str, root: Any, weight: str | None, program: str | os.PathLike[str] | None,
+    timeout: float | None, words: Sequence[str], ends: Sequence[Any] | None = None, depth: int = 4,
+) -> tuple[str, NameTable]:
+    """What a subcommand prints that takes only a topology, and the names of the nodes; a warning is that of the call so
+    many calls above."""
     topology = topology_of(graph, weight)
     names = topology.names
     asked = [subcommand, *options(topology, kind, root, words)]
     if ends is not None:
         asked += [f"--from={names.name(ends[0])}", f"--to={names.name(ends[1])}"]
     said = programs.run(asked, [("topology", topology.text)], program, timeout, names=names)
-    topology.warn(said.notes())
+    topology.warn(said.notes(), depth)
     return said.output, names
 
 
-def plan(graph, kind="shortest", root=None, *, weight="weight", program=None, timeout=None, words=()):
+def options_of(topology: Topology, given: Options) -> list[str]:
+    """The words of options that are one value."""
+    return options(topology, given.kind, given.root, given.words)
+
+
+def asked(subcommand: str, graph: Network, given: Options, ends: Sequence[Any] | None = None) -> tuple[str, NameTable]:
+    """`ask` with the options as one value."""
+    return ask(subcommand, graph, given.kind, given.root, given.weight, given.program, given.timeout, given.words, ends, 5)
+
+
+def plan(graph: Network, kind: str | None = None, root: Any = None, *, options: Options | None = None, **named: Any) -> texts.Plan:
     """The plan of a graph: the label and the intervals of each node.
 
     Parameters
     ----------
     graph : graph of NetworkX, list of edges `(u, v)` or `(u, v, weight)`, or path of a file
-    kind : `"shortest"`, `"compact"` or `"tree"`
-    root : the node from which labels are numbered; the first one by default
-    weight : the edges' attribute that is the weight; None for 1 everywhere
-    program, timeout, words : the path of `route`, the most seconds, further words of the command line
+        The network. It is connected and has at most 16,384 nodes and 65,536 edges.
+    kind : str, optional
+        `"shortest"` (the default), `"compact"` or `"tree"`.
+    root : node, optional
+        The node from which labels are numbered; the first node by default.
+    options : Options, optional
+        Options as one value.
+    **named
+        Further options by name: `weight`, `program`, `timeout` and `words`, as in `Options`.
 
     Returns
     -------
-    Plan, with `nodes[a].label`, `nodes[a].intervals` and `path(a, b)`, in the graph's own nodes
+    Plan
+        With `nodes[a].label`, `nodes[a].intervals` and `path(a, b)`, in the graph's own nodes.
+
+    Raises
+    ------
+    RouteError
+        If the program refuses the network, for instance since it is not connected.
+    GraphError, DirectedGraphError, MultigraphError, WeightError, UnknownNodeError
+        If the graph, a weight or the root is not one that the program takes.
+
+    Examples
+    --------
+    >>> import bentzolu
+    >>> found = bentzolu.plan([("a", "b"), ("b", "c")])
+    >>> found.nodes["b"]
+    <NodePlan 'b': label 1; [0,2) to 'a', [2,0) to 'c'>
+    >>> found.path("a", "c")
+    ['a', 'b', 'c']
     """
-    output, names = ask("plan", graph, kind, root, weight, program, timeout, words)
+    output, names = asked("plan", graph, chosen(options, named, kind=kind, root=root))
     return texts.read_plan(output, names)
 
 
 def compile_many(
-    graphs, kind="shortest", root=None, *, weight="weight", program=None, timeout=None, words=(), jobs=None, progress=False,
-):
+    graphs: Iterable[Network], kind: str | None = None, root: Any = None, *,
+    jobs: int | None = None, progress: bool = False, options: Options | None = None, **named: Any,
+) -> list[texts.Plan]:
     """The plans of many graphs, in their order.
 
     Parameters
     ----------
-    graphs : what has graphs of NetworkX, lists of edges, or paths of files
-    jobs : how many plans are made at a time; as many as there are processors by default
-    progress : whether `tqdm`, where it is there, shows how many are made
-    kind, root, weight, program, timeout, words : as for `plan`, of each graph
+    graphs : iterable of graphs of NetworkX, lists of edges, or paths of files
+        The networks.
+    jobs : int, optional
+        How many plans are made at a time; as many as there are processors by default.
+    progress : bool
+        Whether `tqdm`, if it is installed, shows how many are made.
+    kind, root, options, **named
+        As for `plan`, of each graph.
 
     Returns
     -------
     list of Plan
-    """
-    def made(graph):
-        return plan(graph, kind, root, weight=weight, program=program, timeout=timeout, words=words)
 
-    graphs = list(graphs)
+    Raises
+    ------
+    RouteError
+        The first error of a plan, in the order of the graphs; plans that were not begun are not made.
+
+    Examples
+    --------
+    >>> import bentzolu
+    >>> bentzolu.compile_many([[("a", "b")], [("a", "b"), ("b", "c")]], "tree")
+    [<Plan tree of 2 nodes: 2 intervals>, <Plan tree of 3 nodes: 4 intervals>]
+    """
+    given = chosen(options, named, kind=kind, root=root)
+    found = list(graphs)
     with ThreadPoolExecutor(jobs or os.cpu_count() or 1) as crew:
-        plans = [crew.submit(made, graph) for graph in graphs]
+        plans: list[Future[texts.Plan]] = [crew.submit(plan, graph, options=given) for graph in found]
         try:
             return [it.result() for it in (told(plans) if progress else plans)]
         finally:
@@ -95,187 +143,327 @@ def compile_many(
                 it.cancel()
 
 
-def told(plans):
-    """The same plans to come, of which `tqdm` tells how many are made, where it is there."""
+def told(plans: list[Future[texts.Plan]]) -> Iterable[Future[texts.Plan]]:
+    """The same plans to come, of which `tqdm` shows how many are made, if it is installed."""
     try:
         from tqdm import tqdm
     except ImportError:
         return plans
-    return tqdm(plans, unit="plan")
+    shown: Iterable[Future[texts.Plan]] = tqdm(plans, unit="plan")
+    return shown
 
 
-def walk(graph, source, target, kind="shortest", root=None, *, weight="weight", program=None, timeout=None, words=()):
+def walk(
+    graph: Network, source: Any, target: Any, kind: str | None = None, root: Any = None, *,
+    options: Options | None = None, **named: Any,
+) -> texts.Walk:
     """The walk that the graph's plan prescribes from source to target, with the interval that each node finds.
 
-    The program makes the whole plan for each walk: where many are wanted, `plan(graph).path(source, target)` is quicker.
+    Each call asks the program once. With kinds shortest and compact the program makes only the rows of the walk. If many
+    walks are wanted, `plan(graph).path(source, target)` is quicker.
 
     Parameters
     ----------
-    source, target : nodes of the graph
-    graph, kind, root, weight, program, timeout, words : as for `plan`
+    source, target : node
+        Nodes of the graph.
+    graph, kind, root, options, **named
+        As for `plan`.
 
     Returns
     -------
-    Walk, with `path`, `weight`, `address` (the target's label) and `steps`
+    Walk
+        With `path`, `weight`, `address` (the target's label) and `steps`.
+
+    Raises
+    ------
+    UnknownNodeError
+        If an end is no node of the graph; and errors as of `plan`.
+
+    Examples
+    --------
+    >>> import bentzolu
+    >>> bentzolu.walk([("a", "b", 2), ("b", "c", 3)], "a", "c")
+    <Walk shortest: 'a' 'b' 'c', weight 5>
     """
-    output, names = ask("walk", graph, kind, root, weight, program, timeout, words, (source, target))
+    output, names = asked("walk", graph, chosen(options, named, kind=kind, root=root), (source, target))
     return texts.read_walk(output, names)
 
 
-def stats(graph, kind="shortest", root=None, *, weight="weight", program=None, timeout=None, words=()):
+def stats(graph: Network, kind: str | None = None, root: Any = None, *, options: Options | None = None, **named: Any) -> texts.Stats:
     """The figures of the graph's plan: intervals and bits beside those of full tables, walks beside distances.
 
     Parameters
     ----------
-    graph, kind, root, weight, program, timeout, words : as for `plan`
+    graph, kind, root, options, **named
+        As for `plan`.
 
     Returns
     -------
-    Stats, with `starts`, `entries`, `bits`, `stretch`, `worst`, `compactness`, `dependencies` and more
+    Stats
+        With `starts`, `entries`, `bits`, `stretch`, `worst`, `compactness`, `dependencies` and more.
+
+    Raises
+    ------
+    RouteError
+        As for `plan`.
+
+    Examples
+    --------
+    >>> import bentzolu
+    >>> figures = bentzolu.stats([("a", "b"), ("b", "c"), ("c", "a")])
+    >>> figures.starts, figures.entries, figures.stretch
+    (6, 6, Fraction(1, 1))
     """
-    output, names = ask("stats", graph, kind, root, weight, program, timeout, words)
+    output, names = asked("stats", graph, chosen(options, named, kind=kind, root=root))
     return texts.read_stats(output, names)
 
 
 def prefixes(
-    graph, kind="shortest", root=None, disjoint=False, *, weight="weight", program=None, timeout=None, words=(),
-):
-    """The fewest prefixes of labels by which each node sends on, for routers that look for the longest match.
+    graph: Network, kind: str | None = None, root: Any = None, disjoint: bool = False, *,
+    options: Options | None = None, **named: Any,
+) -> texts.Prefixes:
+    """The fewest prefixes of labels by which each node forwards, for routers with longest prefix match.
 
     Parameters
     ----------
-    disjoint : whether no two prefixes of a node may hold one label, but its own
-    graph, kind, root, weight, program, timeout, words : as for `plan`
+    disjoint : bool
+        Whether no two prefixes of a node may hold one label, but its own.
+    graph, kind, root, options, **named
+        As for `plan`.
 
     Returns
     -------
-    Prefixes, with `bits`, `nodes[a].prefixes` and `path(a, b)`
+    Prefixes
+        With `bits`, `nodes[a].prefixes` and `path(a, b)`.
+
+    Raises
+    ------
+    RouteError
+        As for `plan`.
+
+    Examples
+    --------
+    >>> import bentzolu
+    >>> bentzolu.prefixes([("a", "b"), ("b", "c")]).path("a", "c")
+    ['a', 'b', 'c']
     """
-    words = [*words, "--disjoint"] if disjoint else words
-    output, names = ask("prefixes", graph, kind, root, weight, program, timeout, words)
+    given = chosen(options, named, kind=kind, root=root)
+    words = [*given.words, "--disjoint"] if disjoint else given.words
+    output, names = asked("prefixes", graph, chosen(given, {"words": words}))
     return texts.read_prefixes(output, names)
 
 
-def ranges(graph, kind="shortest", root=None, *, weight="weight", program=None, timeout=None, words=()):
-    """The fewest ranges of labels by which each node sends on, for tables that match ranges: ascending, none past the
-    greatest label to 0, the own label in none and each other label in exactly one.
+def ranges(
+    graph: Network, kind: str | None = None, root: Any = None, *, options: Options | None = None, **named: Any,
+) -> dict[Any, tuple[Range, ...]]:
+    """The fewest ranges of labels by which each node forwards, for tables that match ranges.
+
+    They ascend, none wraps around to 0, the node's own label is in none, and each other label is in exactly one.
 
     Parameters
     ----------
-    graph, kind, root, weight, program, timeout, words : as for `plan`
+    graph, kind, root, options, **named
+        As for `plan`.
 
     Returns
     -------
-    dict, by node, of tuples of `Range`, each with `first`, `last` and `to`
+    dict
+        By node, tuples of `Range`, each with `first`, `last` and `to`.
+
+    Raises
+    ------
+    RouteError
+        As for `plan`.
+
+    Examples
+    --------
+    >>> import bentzolu
+    >>> bentzolu.ranges([("a", "b"), ("b", "c")])["a"]
+    (Range(first=1, last=2, to='b'),)
     """
-    output, names = ask("ranges", graph, kind, root, weight, program, timeout, words)
+    output, names = asked("ranges", graph, chosen(options, named, kind=kind, root=root))
     return read_ranges(output, names)
 
 
 def draw(
-    graph, kind="shortest", root=None, source=None, target=None, *,
-    weight="weight", program=None, timeout=None, words=(), ax=None, pos=None,
-):
+    graph: Network, kind: str | None = None, root: Any = None, source: Any = None, target: Any = None, *,
+    ax: Axes = None, pos: Mapping[Any, Any] | None = None, options: Options | None = None, **named: Any,
+) -> str:
     """The graph with labels and intervals in the language of Graphviz; the walk from source to target is bold.
 
     Parameters
     ----------
-    source, target : the ends of a walk, or neither
-    ax : axes of matplotlib, onto which a graph of NetworkX is drawn too
-    pos : the places of the nodes there; those of `networkx.spring_layout` with a fixed seed by default
-    graph, kind, root, weight, program, timeout, words : as for `plan`
+    source, target : node, optional
+        The ends of a walk, or neither.
+    ax : axes of matplotlib, optional
+        Axes onto which a graph of NetworkX is drawn too.
+    pos : mapping, optional
+        The places of the nodes there; those of `networkx.spring_layout` with a fixed seed by default.
+    graph, kind, root, options, **named
+        As for `plan`.
 
     Returns
     -------
-    str, a text for `dot`
+    str
+        A text for `dot`.
+
+    Raises
+    ------
+    GraphError
+        If `ax` is given for what is no graph of NetworkX; and errors as of `plan`.
+
+    Examples
+    --------
+    >>> import bentzolu
+    >>> bentzolu.draw([("a", "b")]).splitlines()[0]
+    'graph {'
     """
     ends = None if source is None and target is None else (source, target)
     if ax is not None and not hasattr(graph, "is_directed"):
         raise GraphError("matplotlib draws a graph of NetworkX alone")
-    output, names = ask("draw", graph, kind, root, weight, program, timeout, words, ends)
+    given = chosen(options, named, kind=kind, root=root)
+    output, names = asked("draw", graph, given, ends)
     if ax is not None:
-        found = plan(graph, kind, root, weight=weight, program=program, timeout=timeout, words=words)
+        found = plan(graph, options=given)
         path = found.path(source, target) if ends else []
         drawing.onto(ax, graph, found, path, pos)
     return drawing.renamed(output, names)
 
 
-def played(subcommand, graph, steps, kind, root, capacity, packets, restamps, weight, program, timeout, words):
+def played(subcommand: str, graph: Network, steps: Any, given: Options) -> texts.Run:
     """What `sim` or `live` makes of steps."""
-    topology = topology_of(graph, weight)
+    topology = topology_of(graph, given.weight)
     names = topology.names
     script, steps = script_of(steps, names)
-    asked = [subcommand, *options(topology, kind, root, words)]
-    for word, value in [("--capacity", capacity), ("--packets", packets), ("--restamps", restamps)]:
-        asked += [] if value is None else [word, str(value)]
-    given = [("topology", topology.text), ("script", script)]
-    said = programs.run(asked, given, program, timeout, names=names)
+    words = [subcommand, *options_of(topology, given)]
+    for word, value in [("--capacity", given.capacity), ("--packets", given.packets), ("--restamps", given.restamps)]:
+        words += [] if value is None else [word, str(value)]
+    said = programs.run(words, [("topology", topology.text), ("script", script)], given.program, given.timeout, names=names)
     topology.warn(said.notes())
     version, rows = texts.read_trace(said.output, names)
     return texts.Run(version, rows, texts.read_refused(said.faults, steps, said.of_steps()), said.output)
 
 
 def simulate(
-    graph, steps, kind="shortest", root=None, capacity=None, packets=None, restamps=None, *,
-    weight="weight", program=None, timeout=None, words=(),
-):
+    graph: Network, steps: Any, kind: str | None = None, root: Any = None, capacity: int | None = None,
+    packets: int | None = None, restamps: int | None = None, *, options: Options | None = None, **named: Any,
+) -> texts.Run:
     """Plays steps over the graph, one after the other (`route sim`): the packets, and the steps that were refused.
 
-    After an `install` packets are stamped with the epochs before until a step `("learn", epoch)`.
+    After an `install` packets are stamped with the earlier epoch until a step `("learn", epoch)`.
 
     Parameters
     ----------
-    steps : list of steps, as `("inject", a, b)` or `("drain",)` (python/README.md has all), a script as one string, or
-        a `pathlib.Path` of a script
-    capacity : the most packets in each channel and inbox, 1 to 1024; 16 by default
-    packets : the most packets of the run, 1 to 4096
-    restamps : how often a packet of a retired epoch gets the current one in place of being dropped, 0 (the default) to 3
-    graph, kind, root, weight, program, timeout, words : as for `plan`; `kind` and `root` are those of the first epoch
+    graph : graph of NetworkX, list of edges, or path of a file
+        The network. It is connected and has at most 1,024 nodes and 8,192 links.
+    steps : list of steps, str or pathlib.Path
+        Steps, as `("inject", a, b)` or `("drain",)` (python/README.md has all), a script as one string, or the path of a
+        script.
+    kind, root : str, node, optional
+        Those of the first epoch, as for `plan`.
+    capacity : int, optional
+        The most packets in each channel and inbox, 1 to 1,024; 16 by default.
+    packets : int, optional
+        The most packets of the run, 1 to 4,096.
+    restamps : int, optional
+        How often a packet of a retired epoch gets the current one instead of being dropped, 0 (the default) to 3.
+    options, **named
+        As for `plan`.
 
     Returns
     -------
-    Run, with `packets`, `refused` and `trace`
+    Run
+        With `packets`, `refused` and `trace`.
+
+    Raises
+    ------
+    StepError
+        If a step is none; and errors as of `plan`.
+
+    Examples
+    --------
+    >>> import bentzolu
+    >>> run = bentzolu.simulate([("a", "b"), ("b", "c")], [("inject", "a", "c"), ("drain",)])
+    >>> run.packets[0].fate, run.packets[0].hops
+    ('delivered', ['a', 'b', 'c'])
     """
-    return played("sim", graph, steps, kind, root, capacity, packets, restamps, weight, program, timeout, words)
+    placed = {"kind": kind, "root": root, "capacity": capacity, "packets": packets, "restamps": restamps}
+    return played("sim", graph, steps, chosen(options, named, True, **placed))
 
 
 def live(
-    graph, steps, kind="shortest", root=None, capacity=None, packets=None, restamps=None, *,
-    weight="weight", program=None, timeout=None, words=(),
-):
-    """Plays steps while each node runs in a thread of its own (`route live`). How packets and changes meet can differ
-    from run to run.
+    graph: Network, steps: Any, kind: str | None = None, root: Any = None, capacity: int | None = None,
+    packets: int | None = None, restamps: int | None = None, *, options: Options | None = None, **named: Any,
+) -> texts.Run:
+    """Plays steps while each node runs in a thread of its own (`route live`).
+
+    How packets and changes meet can differ from run to run.
 
     Parameters
     ----------
-    steps : as for `simulate`, without `learn`, `take`, `read` and `act`: nodes do these by themselves, and packets are
-        stamped with an epoch as soon as it is installed
-    graph, kind, root, capacity, packets, restamps, weight, program, timeout, words : as for `simulate`
+    steps : list of steps, str or pathlib.Path
+        As for `simulate`, without `learn`, `take`, `read` and `act`: nodes do these by themselves, and packets are
+        stamped with an epoch as soon as it is installed.
+    graph, kind, root, capacity, packets, restamps, options, **named
+        As for `simulate`.
 
     Returns
     -------
-    Run, with `packets`, `refused` and `trace`
+    Run
+        With `packets`, `refused` and `trace`.
+
+    Raises
+    ------
+    StepError
+        If a step is none; and errors as of `plan`.
+
+    Examples
+    --------
+    >>> import bentzolu
+    >>> bentzolu.live([("a", "b"), ("b", "c")], [("inject", "a", "c"), ("drain",)])
+    <Run of 1 packet: 1 delivered>
     """
-    return played("live", graph, steps, kind, root, capacity, packets, restamps, weight, program, timeout, words)
+    placed = {"kind": kind, "root": root, "capacity": capacity, "packets": packets, "restamps": restamps}
+    return played("live", graph, steps, chosen(options, named, True, **placed))
 
 
-def check(graph, steps, trace, kind="shortest", root=None, *, weight="weight", program=None, timeout=None, words=()):
+def check(
+    graph: Network, steps: Any, trace: Any, kind: str | None = None, root: Any = None, *,
+    options: Options | None = None, **named: Any,
+) -> texts.Verdict:
     """Whether each row of a trace follows the plan of its epoch among those that the steps install.
 
-    Hops, ends and weights are judged. Whether a packet was injected, a link was down or a channel full, and whether
-    packets are missing is not looked at.
+    Hops, ends and weights are judged. It is not asked whether a packet was injected, a link was down or a channel full,
+    or whether packets are missing.
 
     Parameters
     ----------
-    steps : as for `simulate`
-    trace : a `Run`, a text, a `pathlib.Path`, or a list of `Packet`
-    graph, kind, root, weight, program, timeout, words : as for `plan`; those of the run that made the trace
+    steps : list of steps, str or pathlib.Path
+        As for `simulate`.
+    trace : Run, str, pathlib.Path or list of Packet
+        The trace.
+    graph, kind, root, options, **named
+        As for `plan`; those of the run that made the trace.
 
     Returns
     -------
-    Verdict, true where there is no finding; else with the `line`, `kind` and `sentence` of the first
+    Verdict
+        True if there is no finding; otherwise with the `line`, `kind` and `sentence` of the first.
+
+    Raises
+    ------
+    RouteError
+        If the script is refused; and errors as of `plan`.
+
+    Examples
+    --------
+    >>> import bentzolu
+    >>> graph, steps = [("a", "b"), ("b", "c")], [("inject", "a", "c"), ("drain",)]
+    >>> bool(bentzolu.check(graph, steps, bentzolu.simulate(graph, steps)))
+    True
     """
-    topology = topology_of(graph, weight)
+    given = chosen(options, named, kind=kind, root=root)
+    topology = topology_of(graph, given.weight)
     names = topology.names
     script, _ = script_of(steps, names)
     if isinstance(trace, texts.Run):
@@ -284,18 +472,29 @@ def check(graph, steps, trace, kind="shortest", root=None, *, weight="weight", p
         trace = read_text(trace)
     elif not isinstance(trace, str):
         trace = texts.write_trace(trace, names)
-    given = [("topology", topology.text), ("script", script), ("trace", trace)]
-    asked = ["check", *options(topology, kind, root, words)]
-    said = programs.run(asked, given, program, timeout, findings=True, names=names)
-    return texts.read_verdict(said.output, programs.sentence_of(said, given))
+    read = [("topology", topology.text), ("script", script), ("trace", trace)]
+    words = ["check", *options_of(topology, given)]
+    said = programs.run(words, read, given.program, given.timeout, findings=True, names=names)
+    return texts.read_verdict(said.output, programs.sentence_of(said, read))
 
 
-def names_of(graph):
-    """The table of the names that the nodes have in texts of `route`, as a `Names`: `name(node)` and `node(name)`; printed
-    it has a line for each node.
+def names_of(graph: Network) -> NameTable:
+    """The table of the names that the nodes have in texts of `route`; printed it has a line for each node.
 
     Parameters
     ----------
     graph : graph of NetworkX, list of edges, or path of a file
+        The network.
+
+    Returns
+    -------
+    Names
+        With `name(node)` and `node(name)`.
+
+    Examples
+    --------
+    >>> import bentzolu
+    >>> bentzolu.names_of([((0, 1), "b")]).name((0, 1))
+    '(0,1)'
     """
     return topology_of(graph, None).names

@@ -1,4 +1,7 @@
 """What the words of `python3 -m bentzolu` do."""
+from __future__ import annotations
+
+import argparse
 import pathlib
 import sys
 import warnings
@@ -9,7 +12,7 @@ from .errors import BentzoluError, TopologyWarning
 from .sources import of_file, read_text
 
 
-def text_of_file(name):
+def text_of_file(name: str) -> str:
     """The text of a file, or of standard input for `-`."""
     if name != "-":
         return read_text(name)
@@ -20,7 +23,7 @@ def text_of_file(name):
         return data.decode("latin-1")
 
 
-def write(output, text):
+def write(output: str | None, text: str) -> None:
     """Writes a text to a file, or to standard output where none is named."""
     if output:
         pathlib.Path(output).write_bytes(text.encode("utf-8"))
@@ -28,7 +31,7 @@ def write(output, text):
         sys.stdout.write(text)
 
 
-def convert(found):
+def convert(found: argparse.Namespace) -> None:
     """`convert`: a network in another format as a weighted edge list."""
     text = text_of_file(found.file)
     format = found.format or format_of(found.file, text)
@@ -44,11 +47,11 @@ def convert(found):
     print(f"{format}: " + "; ".join(notes), file=sys.stderr)
 
 
-def shown(found):
+def shown(found: argparse.Namespace) -> None:
     """`plan` and `stats`: what the program prints of a network in any format."""
     with warnings.catch_warnings(record=True) as caught:
         warnings.simplefilter("always", TopologyWarning)
-        weight = {None: "weight", "1": None}.get(found.weight, found.weight)
+        weight = "weight" if found.weight is None else None if found.weight == "1" else found.weight
         topology = of_file(found.file, found.format, weight, found.largest)
         asked = [found.command, *calls.options(topology, found.kind, None, ())]
         asked += [] if found.root is None else [f"--root={found.root}"]

@@ -1,7 +1,10 @@
 """Files of networks in other formats, as weighted edge lists of `route`."""
+from __future__ import annotations
+
 import math
 import re
 from fractions import Fraction
+from typing import Any, Callable
 
 from .dot import read_dot
 from .errors import BentzoluError
@@ -14,7 +17,7 @@ from .readers import (
 )
 from .texts import counted
 
-READERS = {
+READERS: dict[str, Callable[[str], Network]] = {
     "gml": read_gml, "graphml": read_graphml, "json": read_json, "sndlib": read_sndlib, "sndlib-xml": read_sndlib_xml,
     "rocketfuel": read_rocketfuel, "caida": read_caida, "csv": read_csv, "mtx": read_matrix_market, "dot": read_dot,
     "gexf": read_gexf, "pajek": read_pajek, "graph6": read_graph6, "sparse6": read_sparse6, "adjlist": read_adjlist,
@@ -30,7 +33,7 @@ FRONTS = {"%%matrixmarket": "mtx", "?sndlib": "sndlib", ">>graph6<<": "graph6", 
 ELEMENTS = {"<graphml": "graphml", "<gexf": "gexf", "<networkStructure": "sndlib-xml"}
 
 
-def format_of_list(text):
+def format_of_list(text: str) -> str | None:
     """The format of a list of NetworkX whose lines have attributes in braces; None where there are none."""
     lines = (line.strip() for line in text.splitlines())
     found = [line for _, line in zip(range(2), (line for line in lines if line and not line.startswith("#")))]
@@ -41,8 +44,8 @@ def format_of_list(text):
     return None
 
 
-def format_of(name, text):
-    """The format of a file, by what it begins with and else by its name; None where neither tells."""
+def format_of(name: str, text: str) -> str | None:
+    """The format of a file, by what it begins with and otherwise by its name; None if neither shows it."""
     front = text.lstrip("\ufeff \t\r\n")
     lower = front[:65536].lower()
     for begin, format in FRONTS.items():
@@ -66,7 +69,7 @@ def format_of(name, text):
 COMMENT = re.compile(r"\s+|//[^\n]*|/\*.*?\*/|[#%][^\n]*", re.DOTALL)
 
 
-def without_comments(text):
+def without_comments(text: str) -> str:
     """A text without the blanks and the comments at its front."""
     at = 0
     while found := COMMENT.match(text, at):
@@ -74,13 +77,14 @@ def without_comments(text):
     return text[at:]
 
 
-def parts_of(network):
+def parts_of(network: Network) -> list[list[Any]]:
     """The nodes of each part between which no edge goes, the largest first and else in the order of the nodes."""
-    near = {node: [] for node in network.nodes}
+    near: dict[Any, list[Any]] = {node: [] for node in network.nodes}
     for source, target, _ in network.edges:
         near[source].append(target)
         near[target].append(source)
-    parts, seen = [], set()
+    parts: list[list[Any]] = []
+    seen: set[Any] = set()
     for start in near:
         if start in seen:
             continue
@@ -95,7 +99,7 @@ def parts_of(network):
     return sorted(parts, key=len, reverse=True)
 
 
-def only(network, part):
+def only(network: Network, part: list[Any]) -> Network:
     """A network with the nodes of one part alone, in their order."""
     kept, smaller = set(part), Network(network.directed)
     for node in network.nodes:
@@ -107,24 +111,24 @@ def only(network, part):
     return smaller
 
 
-def whole_weights(weights, notes):
-    """Whole weights from 1 to 65,535: as they are, or all times one factor, which is told; rounded only where it must be."""
+def whole_weights(weights: list[Fraction], notes: list[str]) -> list[int]:
+    """Whole weights from 1 to 65,535: as they are, or all times one factor, which a note reports; rounded only if needed."""
     if not weights:
         return []
     if min(weights) <= 0:
         raise BentzoluError(f"a weight of {float(min(weights)):g} can't be scaled to a whole number from 1: take --weight 1 for 1 everywhere")
-    factor = factor_for(weights)
-    if factor is not None:
-        if factor > 1:
-            notes.append(f"weights times {factor}, exactly")
-        return [int(weight * factor) for weight in weights]
+    exact = factor_for(weights)
+    if exact is not None:
+        if exact > 1:
+            notes.append(f"weights times {exact}, exactly")
+        return [int(weight * exact) for weight in weights]
     factor = Fraction(MOST_WEIGHT) / max(weights)
     factor = Fraction(math.floor(factor)) if factor >= 1 else factor
     notes.append(f"weights times {float(factor):g} and rounded, which can change which paths are shortest")
     return [max(1, round(weight * factor)) for weight in weights]
 
 
-def given_weights(network, weight, notes):
+def given_weights(network: Network, weight: str | None, notes: list[str]) -> list[Fraction]:
     """The weights of the edges: those of the attribute, or 1 each."""
     attributes = sorted({key for _, _, found in network.edges for key in found if as_fraction(found[key]) is not None})
     if weight is None:
@@ -141,9 +145,10 @@ def given_weights(network, weight, notes):
     return [decimal(found.get(weight, 1)) for _, _, found in network.edges]
 
 
-def links_of(network, weight, notes):
+def links_of(network: Network, weight: str | None, notes: list[str]) -> dict[tuple[Any, Any], int]:
     """The links: pairs of nodes with the least weight of all edges between them, in either direction."""
-    links, loops, more = {}, 0, 0
+    links: dict[tuple[Any, Any], Fraction] = {}
+    loops = more = 0
     weights = given_weights(network, weight, notes)
     for (source, target, _), given in zip(network.edges, weights):
         if source == target:
@@ -161,9 +166,10 @@ def links_of(network, weight, notes):
     return dict(zip(links, whole_weights(list(links.values()), notes)))
 
 
-def converted(text, format, largest=False, weight=None):
+def converted(text: str, format: str, largest: bool = False, weight: str | None = None) -> tuple[str, Names, list[str]]:
     """A weighted edge list, the names of the nodes, and notes on what was changed, of a text in one of the formats."""
-    network, notes = READERS[format](text), []
+    network = READERS[format](text)
+    notes: list[str] = []
     if not network.nodes:
         raise BentzoluError("there is no node")
     parts = parts_of(network)
@@ -181,6 +187,6 @@ def converted(text, format, largest=False, weight=None):
     return "".join(lines), names, notes
 
 
-def renamed(names):
+def renamed(names: Names) -> int:
     """How many nodes have a name that is not what they are called."""
     return sum(text_of(node) != name or " " in str(node) for node, name in names.items())

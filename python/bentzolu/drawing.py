@@ -1,19 +1,25 @@
 """Drawings: the nodes' own names in a text for Graphviz, and a picture by matplotlib."""
+from __future__ import annotations
+
 import re
+from typing import Any, Mapping, Sequence
+
+from .texts import Interval, Plan
+from .typed import Axes, Graph, NameTable
 
 STATEMENT = re.compile(r'^  "((?:[^"\\]|\\.)*)" \[label="((?:[^"\\]|\\.)*) ([0-9]+)"')
 
 
-def quoted(text):
+def quoted(text: str) -> str:
     """A text between quotation marks of Graphviz."""
     return text.replace("\\", "\\\\").replace('"', '\\"').replace("\n", " ")
 
 
-def renamed(dot, names):
+def renamed(dot: str, names: NameTable) -> str:
     """A drawing in which each node is shown by what it is in the graph; its identifier stays its name in `route`."""
     shown = {quoted(name): quoted(str(node)) for node, name in names.changed()}
 
-    def line(text):
+    def line(text: str) -> str:
         found = STATEMENT.match(text)
         if not found or found[1] not in shown:
             return text
@@ -22,12 +28,12 @@ def renamed(dot, names):
     return "".join(line(text) + "\n" for text in dot.splitlines())
 
 
-def spelled(interval):
+def spelled(interval: Interval) -> str:
     """An interval in the writing of `route draw`."""
     return f"[{interval.start},{interval.end})"
 
 
-def onto(ax, graph, plan, path=(), pos=None):
+def onto(ax: Axes, graph: Graph, plan: Plan, path: Sequence[Any] = (), pos: Mapping[Any, Any] | None = None) -> None:
     """Draws a graph with its plan onto axes of matplotlib: labels beside names, and at each end of a link the intervals
     that its node serves there."""
     import networkx

@@ -1,5 +1,8 @@
 """What can go wrong, as exceptions."""
+from __future__ import annotations
+
 import re
+from typing import Any, Optional
 
 
 class BentzoluError(Exception):
@@ -37,9 +40,29 @@ class ProgramNotFoundError(BentzoluError, FileNotFoundError):
 class FormatError(BentzoluError, ValueError):
     """A text that is not what its format asks for: `line` is the number of its line, or None."""
 
-    def __init__(self, message, line=None):
+    def __init__(self, message: str, line: int | None = None) -> None:
         super().__init__(message if line is None else f"line {line}: {message}")
         self.line = line
+
+
+class MissingPackageError(BentzoluError, ImportError):
+    """A package that a call needs is not installed; the text says how to get it."""
+
+
+class FailureError(BentzoluError, ValueError):
+    """A failure of a sweep that is neither a link nor a node of the network, nor several of these."""
+
+
+class SweepError(BentzoluError):
+    """A sweep that ended before its last row. `rows` has what was made, as a `Sweep`, so nothing is lost."""
+
+    def __init__(self, message: str, rows: Optional[Any] = None) -> None:
+        super().__init__(message)
+        self.rows = rows
+
+
+class ResultsError(SweepError):
+    """A file of results that can't be used: it is another sweep's, it is no file of a sweep, or it can't be written."""
 
 
 class TopologyWarning(UserWarning):
@@ -52,11 +75,11 @@ class RouteError(BentzoluError):
     `status` is the exit status: 1 a refused input, 2 words that were not understood, 3 no memory or no thread. `text` is
     what stood on standard error. `about` is `topology`, `script`, `trace`, `numbering`, `opening`, `input`, `output` or
     None; `kind` is the name of the fault, as `BadWeight` or `Disconnected`; `line` is the number of the faulty line, or
-    None, and `content` what stands there. `sentence` says what is wrong, with the graph's own nodes, where the program
+    None, and `content` what is there. `sentence` says what is wrong, with the graph's own nodes, where the program
     has a sentence for it; else it is None.
     """
 
-    def __init__(self, status, text, content=None, sentence=None):
+    def __init__(self, status: int, text: str, content: str | None = None, sentence: str | None = None) -> None:
         self.status = status
         self.text = text
         self.about, self.line, self.kind = fault_of(status, text)
@@ -75,7 +98,7 @@ UNREAD = re.compile(r"(?:route: )?(topology|script|trace|numbering|input|output)
 LAST = {"out of memory": "NoMemory", "no thread": "NoThread"}
 
 
-def fault_of(status, text):
+def fault_of(status: int, text: str) -> tuple[str | None, int | None, str]:
     """What a fault is about, its line and its kind, of the text on standard error."""
     for line in text.splitlines():
         if found := FAULT.match(line):

@@ -1,10 +1,14 @@
 """Graphs of NetworkX as weighted edge lists of `route`."""
+from __future__ import annotations
+
 import math
 import numbers
 from fractions import Fraction
+from typing import Any, Iterable, Iterator, Mapping
 
 from .errors import DirectedGraphError, GraphError, MultigraphError, WeightError
 from .names import Names
+from .typed import Attributes, Graph, Node
 
 MOST_WEIGHT = 65535
 
@@ -15,12 +19,12 @@ class Edges:
     Nodes come in the order in which the edges name them, and an edge that is named again takes the last weight.
     """
 
-    def __init__(self, edges):
-        self._near = {}
+    def __init__(self, edges: Iterable[Any]) -> None:
+        self._near: dict[Node, dict[Node, Attributes]] = {}
         for edge in edges:
             self._add(edge)
 
-    def _add(self, edge):
+    def _add(self, edge: Any) -> None:
         try:
             u, v, *more = edge if not isinstance(edge, str) else ()
             hash((u, v))
@@ -32,27 +36,27 @@ class Edges:
         self._near.setdefault(u, {})[v] = data
         self._near.setdefault(v, {})[u] = data
 
-    def is_directed(self):
+    def is_directed(self) -> bool:
         return False
 
-    def is_multigraph(self):
+    def is_multigraph(self) -> bool:
         return False
 
-    def __iter__(self):
+    def __iter__(self) -> Iterator[Node]:
         return iter(self._near)
 
-    def __getitem__(self, node):
+    def __getitem__(self, node: Node) -> Mapping[Node, Attributes]:
         return self._near[node]
 
-    def edges(self, data=True):
+    def edges(self, data: bool = True) -> Iterator[tuple[Node, Node, Attributes]]:
         """The edges with their attributes, each once, by the first of their nodes."""
-        seen = set()
+        seen: set[Node] = set()
         for u, near in self._near.items():
             seen.add(u)
             yield from ((u, v, found) for v, found in near.items() if v == u or v not in seen)
 
 
-def graph_of(given):
+def graph_of(given: Any) -> Graph:
     """A graph of NetworkX as it is, and a list of edges as a graph."""
     if hasattr(given, "is_directed"):
         return given
@@ -64,7 +68,7 @@ def graph_of(given):
     return Edges(given)
 
 
-def refuse_kinds(graph):
+def refuse_kinds(graph: Graph) -> None:
     """Refuses directed graphs and multigraphs."""
     if graph.is_directed():
         raise DirectedGraphError(
@@ -76,7 +80,7 @@ def refuse_kinds(graph):
         )
 
 
-def as_fraction(weight):
+def as_fraction(weight: Any) -> Fraction | None:
     """A number, or a text of one, as an exact fraction by its decimal writing; None where it is no finite number."""
     try:
         if isinstance(weight, numbers.Rational):
@@ -86,7 +90,7 @@ def as_fraction(weight):
         return None
 
 
-def factor_for(weights):
+def factor_for(weights: list[Fraction]) -> int | None:
     """The least whole factor that makes all weights whole and at most 65,535, or None where there is none."""
     factor = 1
     for weight in weights:
@@ -96,10 +100,11 @@ def factor_for(weights):
     return factor if max(weights) * factor <= MOST_WEIGHT else None
 
 
-def advice(weights):
+def advice(weights: list[Any]) -> str:
     """How to make whole weights from 1 to 65,535 of these."""
-    found = [None if isinstance(weight, (str, bytes)) else as_fraction(weight) for weight in weights]
-    if None in found:
+    read = [None if isinstance(weight, (str, bytes)) else as_fraction(weight) for weight in weights]
+    found = [weight for weight in read if weight is not None]
+    if len(found) < len(read):
         return "each weight has to be a number"
     if min(found) <= 0:
         return "no factor helps a weight that is 0 or less: shift the weights, or leave these edges out"
@@ -111,7 +116,7 @@ def advice(weights):
     return f"bentzolu.scaled(G, {factor:g}) multiplies and rounds, which can change which paths are shortest"
 
 
-def whole(weight):
+def whole(weight: Any) -> int | None:
     """A weight as a whole number from 1 to 65,535, or None; a text is no weight."""
     found = None if isinstance(weight, (str, bytes)) else as_fraction(weight)
     if found is None or found.denominator != 1 or not 1 <= found <= MOST_WEIGHT:
@@ -119,40 +124,73 @@ def whole(weight):
     return int(found)
 
 
-def weights_of(graph, weight):
+def weights_of(graph: Graph, weight: str | None) -> list[tuple[Node, Node, int]]:
     """The edges between two nodes as triples with a whole weight; an edge without the attribute has weight 1."""
     edges = [(u, v, 1 if weight is None else data.get(weight, 1)) for u, v, data in graph.edges(data=True) if u != v]
+    found = []
     for u, v, given in edges:
-        if whole(given) is None:
+        number = whole(given)
+        if number is None:
             raise WeightError(
                 f"the edge from {u!r} to {v!r} has weight {given!r}, and route takes whole numbers from 1 to {MOST_WEIGHT}; "
                 + advice([it for _, _, it in edges])
             )
-    return [(u, v, whole(given)) for u, v, given in edges]
+        found.append((u, v, number))
+    return found
 
 
-def scaled(graph, factor, weight="weight"):
+def scaled(graph: Graph, factor: float | Fraction, weight: str = "weight") -> Graph:
     """A copy of a graph whose weights are multiplied by a factor and rounded, at least 1 each.
 
-    An edge without the attribute stays without it, so it has weight 1 still.
+    An edge without the attribute stays without it, so it still has weight 1.
+
+    Parameters
+    ----------
+    graph : graph of NetworkX
+        The graph; what is asked of it is `copy` and `edges`.
+    factor : number
+        The factor.
+    weight : str
+        The attribute.
+
+    Returns
+    -------
+    graph of NetworkX
+
+    Raises
+    ------
+    WeightError
+        If a weight, or the factor, is no number above 0.
+
+    Examples
+    --------
+    >>> class Copied(Edges):
+    ...     def copy(self):
+    ...         return Copied([(u, v, dict(data)) for u, v, data in self.edges()])
+    >>> list(scaled(Copied([("a", "b", 0.25)]), 4).edges())
+    [('a', 'b', {'weight': 1})]
     """
+    times = as_fraction(factor)
+    if times is None:
+        raise WeightError(f"the factor {factor!r} is no number")
     copy = graph.copy()
     for _, _, data in copy.edges(data=True):
         if weight in data:
             exact = as_fraction(data[weight])
             if exact is None or exact <= 0:
                 raise WeightError(f"a weight of {data[weight]!r} can't be scaled")
-            data[weight] = max(1, round(exact * as_fraction(factor)))
+            data[weight] = max(1, round(exact * times))
     return copy
 
 
-def edge_list(graph, names, weight="weight"):
+def edge_list(graph: Graph, names: Names, weight: str | None = "weight") -> str:
     """The text of a weighted edge list. The graph's first node is the text's first.
 
-    Edges from a node to itself make no link and are left out; only a node without another edge stands as one, since else
-    the list would not name it.
+    Edges from a node to itself make no link and are left out. Only a node without another edge is written as one, since
+    otherwise the list would not name it.
     """
-    lines, by_source = [], {}
+    lines: list[str] = []
+    by_source: dict[Node, list[str]] = {}
     for u, v, given in weights_of(graph, weight):
         by_source.setdefault(u, []).append(f"{names.name(u)} {names.name(v)} {given}\n")
     for node in graph:
@@ -162,7 +200,7 @@ def edge_list(graph, names, weight="weight"):
     return "".join(lines)
 
 
-def prepared(graph, weight="weight"):
+def prepared(graph: Any, weight: str | None = "weight") -> tuple[Names, str]:
     """The names and the weighted edge list of a graph or of a list of edges."""
     graph = graph_of(graph)
     refuse_kinds(graph)

@@ -8,18 +8,21 @@ import sys
 import tempfile
 import time
 from dataclasses import dataclass
-from typing import List, Tuple
+from typing import List, Optional, Tuple
 
 from . import program as programs, texts
 from .errors import BentzoluError, RouteError
+from .lab_check import Story
 from .lab_judge import Judge
 from .lab_net import LabError, Network, links_of, play, without_link
 from .lab_space import apart
-from .lab_traffic import Traffic
+from .lab_traffic import Traffic, watch
+from .lab_xdp import MODES, XdpNetwork
 from .label_ranges import check_ranges, read_ranges
 
 KINDS = ("tree", "shortest", "compact")
-MOST_NODES = 256
+MOST_NODES, MOST_CHANGES = 256, 1000
+MOST_EPOCHS = 64  # of a script of the program
 MOST_LINKS_OF_A_WALK = 250  # hop limits start with 255
 PAUSE, PAUSE_IN_PLACE = 0.02, 0.1  # seconds between two nodes
 WAIT = 0.3  # seconds that packets of the old epoch have at least
@@ -29,7 +32,7 @@ ABOUT = """Builds a network of Linux's network namespaces, sends packets of UDP 
 connection of TCP, changes the plan of the network meanwhile from one epoch to the next, and tells of each packet whether it
 arrived, and by the walk of its epoch. Everything that it makes is gone when it ends, however it ends. It wants Linux, root,
 iproute2 and nftables, and the program route. Status 0: no packet was lost or mixed; 1: one was, or the lab cannot be built;
-2: the words were not understood."""
+2: the words were not understood. With --plane it takes the plane in BPF in place of nftables, which plane/make builds."""
 
 
 def add_words(commands):
@@ -40,6 +43,8 @@ def add_words(commands):
     parser.add_argument("--to", choices=KINDS, default="shortest", help="the kind of the second plan (shortest)")
     parser.add_argument("--root", metavar="R", help="the root of both; the topology's first node by default")
     parser.add_argument("--numbering", metavar="FILE", help="a file with the nodes in the order of their labels, for both; not with --root")
+    parser.add_argument("--plane", choices=("nft", *MODES), default="nft", help="what forwards: nftables (nft), or the plane in BPF as xdp, generic or tc")
+    parser.add_argument("--changes", metavar="N", type=int, default=1, help="so many changes, from the one plan to the other and back (1)")
     parser.add_argument("--rate", metavar="P", type=int, default=500, help="packets of UDP a second (500)")
     parser.add_argument("--seconds", metavar="S", type=float, default=1, help="seconds of traffic before the change and behind it, at least (1)")
     parser.add_argument("--seed", metavar="S", type=int, default=1, help="for the orders of nodes and pairs (1)")
@@ -62,6 +67,14 @@ class Phase:
 
 
 @dataclass
+class Change:
+    """What leads from one epoch to the next one, and what removes the old one once it is empty."""
+
+    act: List[Phase]
+    retirement: List[Phase]
+
+
+@dataclass
 class Lab:
     """A network with two plans and what leads from one to the other."""
 
@@ -71,8 +84,8 @@ class Lab:
     build: Phase
     opening: List[Phase]
     failure: List[Phase]
-    change: List[Phase]
-    retirement: List[Phase]
+    changes: List["Change"]
+    story: Optional[Story] = None
 
 
 def read_topology(path):
@@ -149,11 +162,28 @@ def checked_plans(words, text, form):
     return plans, {1: first_ranges, 2: second_ranges}
 
 
+def story_of(words, text, form, plans):
+    """What the lab does, as the program's judge reads it; None where no script has its second plan: under labels of a file,
+    or under those that stay without a link, its ways may be others than those of the plan that a script installs."""
+    root = min(plans[1].labels, key=plans[1].labels.get)
+    if words.numbering or words.changes >= MOST_EPOCHS:
+        return None
+    changes = [[f"install {(words.kind, words.to)[epoch % 2]} {root}"] for epoch in range(1, words.changes + 1)]
+    if words.down:
+        changes[0].insert(0, f"down {' '.join(words.down)}")
+        other, _ = plan_of(without_link(text, form, words.down), form, words.to, ["--root", root])
+        if any(other.path(a, b) != plans[2].path(a, b) for a in other.nodes for b in other.nodes if a != b):
+            return None
+    return Story(text, form, ("--kind", words.kind, "--root", root), tuple(map(tuple, changes)), ())
+
+
 def prepare(words):
     """The lab that the words ask for, as far as it can be made without touching anything."""
     text, form = read_topology(words.topology)
     plans, found = checked_plans(words, text, form)
-    network = Network(plans[1], links_of(text, form))
+    network = network_of(words, plans[1], links_of(text, form))
+    rows = {epoch: network.rows_of(plans[epoch], found[epoch]) for epoch in (1, 2)}
+    plans = {epoch: plans[2 - epoch % 2] for epoch in range(1, 3 if words.in_place else words.changes + 2)}
     draw = random.Random(words.seed)
 
     def phase(name, line, script, *more, pause=PAUSE):
@@ -161,21 +191,32 @@ def prepare(words):
         return Phase(name, line, [(node, script(node, *more)) for node in nodes], pause)
 
     def install(epoch):
-        elements = sum(len(parts) + 1 for parts in found[epoch].values())
-        line = f"epoch {epoch} {plans[epoch].kind} {elements}"
-        return phase(f"install-{epoch}", line, network.install, found[epoch], epoch)
+        line = f"epoch {epoch} {plans[epoch].kind} {network.size_of(rows[2 - epoch % 2])}"
+        return phase(f"install-{epoch}", line, network.install, rows[2 - epoch % 2], epoch)
+
+    def change(epoch):
+        """The change to an epoch, or in place the one that stands for it."""
+        if words.in_place:
+            name = "in-place" if epoch == 2 else f"in-place-{epoch}"
+            return Change([phase(name, "in place", network.replace, rows[2 - epoch % 2], 1, pause=PAUSE_IN_PLACE)], [])
+        act = [install(epoch), phase(f"stamp-{epoch}", f"stamped {epoch}", network.stamp, epoch)]
+        wait = network.drained(epoch - 1)
+        drained = [Phase(f"drained-{epoch - 1}", f"drained {epoch - 1}", [("all nodes", wait)])] if wait else []
+        retire = phase(f"retire-{epoch - 1}", f"retired {epoch - 1}", network.retire, rows[2 - (epoch - 1) % 2], epoch - 1, pause=0)
+        return Change(act, [*drained, retire])
 
     build = Phase("up", f"lab {len(network.nodes)} {len(network.links)}", [("all nodes", network.up())])
     opening = [install(1), phase("stamp-1", "stamped 1", network.stamp, 1)]
-    failure, retirement = [], []
+    failure = []
     if words.down:
         failure.append(Phase("down", f"down {' '.join(words.down)}", [(words.down[0], network.down(*words.down))]))
-    if words.in_place:
-        change = [phase("in-place", "in place", network.replace, found[2], 1, pause=PAUSE_IN_PLACE)]
-    else:
-        change = [install(2), phase("stamp-2", "stamped 2", network.stamp, 2)]
-        retirement.append(phase("retire-1", "retired 1", network.retire, found[1], 1, pause=0))
-    return Lab(words, network, plans, build, opening, failure, change, retirement)
+    changes = [change(epoch) for epoch in range(2, words.changes + 2)]
+    return Lab(words, network, plans, build, opening, failure, changes, story_of(words, text, form, plans))
+
+
+def network_of(words, plan, links):
+    """The network over the plane that the words name."""
+    return Network(plan, links) if words.plane == "nft" else XdpNetwork(plan, links, words.plane)
 
 
 def printed(lab):
@@ -191,9 +232,11 @@ def printed(lab):
             lines.append(f"# {phase.line}")
             lines.extend(script.rstrip("\n") for _, script in phase.acts)
 
-    add([lab.build, *lab.opening, *lab.failure, *lab.change])
-    lines += [f"sleep {WAIT}"] if lab.retirement else []
-    add(lab.retirement)
+    add([lab.build, *lab.opening, *lab.failure])
+    for change in lab.changes:
+        add(change.act)
+        lines += [f"sleep {WAIT}"] if change.retirement else []
+        add(change.retirement)
     return "\n".join(lines) + "\n"
 
 
@@ -255,12 +298,15 @@ def run_change(lab, traffic, told):
     do(lab.failure, told)
     if lab.failure:
         carry("packets while the link is down")
-    do(lab.change, told)
-    told.where, mark = "waiting until the old epoch is empty", board.sent
-    time.sleep(WAIT)
-    traffic.until(lambda: board.low >= mark, 1 if lab.failure or words.in_place else 10)
-    do(lab.retirement, told)
-    carry("packets of the second epoch")
+    for change in lab.changes:
+        if lab.story:
+            lab.story = lab.story._replace(before=(*lab.story.before, board.sent))
+        do(change.act, told)
+        told.where, mark = "waiting until the old epoch is empty", board.sent
+        time.sleep(WAIT)
+        traffic.until(lambda: board.low >= mark, 1 if lab.failure or words.in_place else 10)
+        do(change.retirement, told)
+    carry("packets of the last epoch")
     told.where = "the end of the traffic"
     return traffic.finish()
 
@@ -286,12 +332,17 @@ def judged(lab):
     with Told() as told:
         do([lab.build, *lab.opening], told)
         pairs, path = pairs_of(lab), longest(lab)
-        with Traffic(lab.network, pairs, (path[0], path[-1]), lab.words.rate) as traffic:
+        watching = watch if lab.words.plane == "nft" else lab.network.watch
+        with Traffic(lab.network, pairs, (path[0], path[-1]), lab.words.rate, watching) as traffic:
             frames, arrivals, unseen = run_change(lab, traffic, told)
         if unseen:
             raise LabError(f"cannot judge: {unseen} frames were not seen")
-        told.where = "judging"
-        judge = Judge(lab.network.nodes, lab.plans, lab.words.in_place, tuple(lab.words.down or ()))
+        def tell(number):
+            told.where = f"judging, {number} judged"
+
+        if lab.story is None:
+            print("lab: no script of the program has these plans: their rows judge the packets", file=sys.stderr)
+        judge = Judge(lab.network.nodes, lab.plans, lab.words.in_place, tuple(lab.words.down or ()), lab.story, tell)
         found = judge.judge(traffic.board.sent, pairs, frames, arrivals)
     return report(lab, found, traffic.board, (path[0], path[-1]))
 
@@ -303,7 +354,7 @@ def by_hand(lab):
     folder = pathlib.Path(SCRIPTS)
     folder.mkdir()
     names = []
-    for phase in [*lab.failure, *lab.change, *lab.retirement]:
+    for phase in [*lab.failure, *(it for change in lab.changes for it in [*change.act, *change.retirement])]:
         names.append(f"{phase.name}.sh")
         (folder / names[-1]).write_text("".join(script for _, script in phase.acts))
     spaces = ", ".join(map(lab.network.space, lab.network.nodes[:3]))
@@ -319,6 +370,10 @@ def refuse_words(words, parser):
         parser.error("--root and --numbering do not go together: the first node of the file is the root")
     if words.in_place and words.down:
         parser.error("--in-place and --down do not go together")
+    if words.down and words.changes != 1:
+        parser.error("--down and --changes do not go together: the second plan is for the network without the link")
+    if not 1 <= words.changes <= MOST_CHANGES:
+        parser.error(f"--changes is 1 to {MOST_CHANGES}")
     if words.print and words.run is not None:
         parser.error("--print and --run do not go together")
     if not 1 <= words.rate <= 100_000:
@@ -341,7 +396,8 @@ def main(words, parser):
         if words.print:
             print(printed(lab), end="")
             return 0
-        return apart(lambda: by_hand(lab) if words.run is not None else judged(lab))
+        probing = lab.network.probing() if words.plane != "nft" else {}
+        return apart(lambda: by_hand(lab) if words.run is not None else judged(lab), **probing)
     except RouteError as fault:
         print(f"lab: {fault}", file=sys.stderr)
         return 2 if fault.status == 2 else 1

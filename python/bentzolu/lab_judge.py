@@ -1,7 +1,10 @@
-"""What became of each packet of a lab, beside the walks of its plans."""
+"""What became of each packet of a lab. The program judges their ways; where no script of it has the plans of a lab, their
+rows do."""
 from collections import defaultdict
 from dataclasses import dataclass, field
-from typing import Dict, Set, Tuple
+from typing import Callable, Dict, Optional, Set, Tuple
+
+from .lab_check import Story, Way, findings
 
 
 @dataclass
@@ -21,12 +24,15 @@ class Verdict:
 
 @dataclass
 class Judge:
-    """Walks of one or two plans, by epoch, between nodes that are told by their places in `nodes`."""
+    """Walks of one or two plans, by epoch, between nodes that are told by their places in `nodes`; and the story that the
+    program judges by, or None."""
 
     nodes: list
     plans: dict
     in_place: bool = False
     down: tuple = ()
+    story: Optional[Story] = None
+    tell: Callable[[int], None] = lambda _: None
     known: dict = field(default_factory=dict)
 
     def walk(self, epoch, pair):
@@ -36,20 +42,25 @@ class Judge:
             self.known[epoch, pair] = [self.nodes.index(node) for node in path]
         return self.known[epoch, pair]
 
-    def epoch_of(self, pair, frames, delivered):
-        """The epoch whose walk a packet followed, as (hop limit, node, next node, epoch) of each hop tells; else None. In
-        place all hops have epoch 1, and a packet that made the whole walk of the other plan counts as its."""
+    def way_of(self, number, pair, frames, delivered):
+        """A packet's way by the nodes and the one epoch that its hops say, as (hop limit, node, next node, epoch) of each;
+        None where they are no way of one epoch. In place all hops have epoch 1, and a packet that made the whole walk of
+        the other plan counts as its."""
         way = [pair[0]] + [there for _, _, there, _ in frames]
         epochs = {epoch for _, _, _, epoch in frames}
         if len(epochs) != 1 or any(frame[1] != here for frame, here in zip(frames, way)):
             return None
         epoch = epochs.pop()
-        tried = {1: [1, 2]}.get(epoch, []) if self.in_place else [epoch] if epoch in self.plans else []
-        for one in tried:
-            walk = self.walk(one, pair)
-            if way == walk[: len(way)] and (not delivered or way == walk) and (delivered or one == epoch):
-                return one
-        return None
+        if self.in_place and epoch == 1 and delivered and way != self.walk(1, pair) and way == self.walk(2, pair):
+            epoch = 2
+        return Way(number, epoch, tuple(self.nodes[i] for i in way), self.nodes[pair[1]], delivered)
+
+    def by_rows(self, pair, way):
+        """Whether a way is a front of the walk of its epoch, and the whole of it where the packet arrived."""
+        if way.epoch not in self.plans:
+            return False
+        walk = tuple(self.nodes[i] for i in self.walk(way.epoch, pair))
+        return way.nodes == walk[: len(way.nodes)] and (not way.is_there or way.nodes == walk)
 
     def at_down(self, pair, epoch, frames):
         """Whether a packet of an epoch came to its end at the link that is down, as its walk goes over it."""
@@ -66,20 +77,28 @@ class Judge:
             arrived[number].append(node)
         epochs = list(self.plans)
         found = Verdict({e: 0 for e in epochs}, {e: 0 for e in epochs}, {e: set() for e in epochs})
-        for number in range(sent):
-            pair = pairs[number % len(pairs)]
-            delivered = arrived[number] == [pair[1]]
-            self.count(found, pair, sorted(ways[number]), delivered)
+        ends = [pairs[number % len(pairs)] for number in range(sent)]
+        is_there = [arrived[number] == [pair[1]] for number, pair in enumerate(ends)]
+        hops = [sorted(ways[number]) for number in range(sent)]
+        made = [self.way_of(number, ends[number], hops[number], is_there[number]) if hops[number] else None for number in range(sent)]
+        told = [way for way in made if way is not None]
+        if self.story is not None:
+            wrong = set(findings(self.story, told, self.tell))
+        else:
+            wrong = {way.number for way in told if not self.by_rows(ends[way.number], way)}
+        for number, way in enumerate(made):
+            fine = way is not None and number not in wrong
+            self.count(found, ends[number], hops[number], way.epoch if fine else None, is_there[number])
         return found
 
-    def count(self, found, pair, frames, delivered):
-        """Adds one packet, with its hops in their order, to what was found. One that made no hop took no way at all."""
+    def count(self, found, pair, frames, epoch, delivered):
+        """Adds one packet, with its hops in their order and its epoch, or None for a way of none, to what was found. One that
+        made no hop took no way at all."""
         if not frames:
             at_down = self.down and self.at_down(pair, 1, frames)
             found.over += bool(at_down)
             found.lost += not at_down
             return
-        epoch = self.epoch_of(pair, frames, delivered)
         if epoch is None:
             found.mixed += 1
             found.lost += not delivered

@@ -8,11 +8,11 @@ which the node of its source writes and that of its destination takes off.
 import re
 import subprocess
 
+from . import plane
 from .errors import BentzoluError
+from .plane import GROUP, OWN_LINK, address, hardware
 
 FINE_NAME = re.compile(r"[A-Za-z0-9][A-Za-z0-9_.-]*")
-GROUP = 0xFD00  # the first group of all addresses
-OWN_LINK = "02:00:00:01:00:01"  # the end of the link by which a node's own packets come in
 
 
 class LabError(BentzoluError):
@@ -32,14 +32,23 @@ def links_of(text, form):
 
 def without_link(text, form, ends):
     """A topology's text without the link between two nodes."""
-    lines = []
+    return without_links(text, form, [ends])
+
+
+def without_links(text, form, links):
+    """A topology's text without some links, each a pair of nodes."""
+    gone, lines = {}, []
+    for a, b in links:
+        gone.setdefault(a, set()).add(b)
+        gone.setdefault(b, set()).add(a)
     for line in text.splitlines():
         words = line.split("#", 1)[0].split()
-        if form == "edgelist":
-            lines += [] if set(words[:2]) == set(ends) else [line]
-        elif words[:1] and words[0] in ends:
-            lines.append(" ".join([words[0], *(word for word in words[1:] if word not in ends or word == words[0])]))
-        else:
+        off = gone.get(words[0], ()) if words else ()
+        if not off:
+            lines.append(line)
+        elif form != "edgelist":
+            lines.append(" ".join([words[0], *(word for word in words[1:] if word not in off)]))
+        elif not words[1:2] or words[1] not in off:
             lines.append(line)
     return "".join(line + "\n" for line in lines)
 
@@ -51,20 +60,6 @@ def play(script):
         lines = done.stderr.strip().splitlines() or [f"status {done.returncode}"]
         said = next((line for line in lines if "Error" in line), lines[0])
         raise LabError(f"cannot go on: {said}")
-
-
-def address(label, epoch=0):
-    """The address of a label: for programs without an epoch, under way with one."""
-    return f"{GROUP:x}:{epoch:x}::{label:x}" if epoch else f"{GROUP:x}::{label:x}"
-
-
-def hardware(number):
-    return f"02:00:00:00:{number >> 8:02x}:{number & 255:02x}"
-
-
-def stamp_value(epoch):
-    """The first two groups of an address of an epoch, as one number of nftables."""
-    return f"0x{GROUP << 16 | epoch:08x}"
 
 
 class Network:
@@ -120,32 +115,36 @@ class Network:
             lines.append(f"neigh add {known} dev {self.port(other)} nud permanent")
         lines.append("address add fe80::fffe/64 dev bz0 nodad")
         lines.append(f"neigh add fe80::ffff lladdr {OWN_LINK} dev bz0 nud permanent")
-        lines += [f"route add {GROUP:x}::/16 via fe80::ffff dev bz0", "END", ""]
+        lines += [f"route add {GROUP:x}::/16 via fe80::ffff dev bz0", "END"]
+        lines += [f"ip -n {self.space(node)} -6 {plane.COMES_BACK}", ""]
         settings = ["cd /proc/sys/net/ipv6", "echo 1 > conf/all/forwarding", "echo > icmp/ratemask"]
         settings.append('for limit in conf/*/hop_limit; do echo 255 > "$limit"; done')
-        return "\n".join(lines) + self.inside(node, "sh -e", settings) + self.inside(node, "nft -f -", self.tables(node))
+        return "\n".join(lines) + self.inside(node, "sh -e", settings) + self.up_plane(node)
+
+    def up_plane(self, node):
+        """The script that makes what a node forwards by, without a row."""
+        return self.inside(node, "nft -f -", self.tables(node))
+
+    def rows_of(self, plan, ranges):
+        """What `install` and `replace` take of a plan: here its ranges."""
+        return ranges
+
+    def size_of(self, rows):
+        """The number of elements of all nodes for rows, the own labels among them."""
+        return sum(len(parts) + 1 for parts in rows.values())
+
+    def drained(self, epoch):
+        """The script that waits until an epoch is empty, where the plane can say it."""
+        return ""
 
     def tables(self, node):
         """The tables of a node without an element, as nftables reads them."""
-        unstamp = f"@nh,192,32 set {stamp_value(0)} accept"
-        lines = ["table netdev bz {"]
-        for other in self.near[node]:
-            lines += [f"chain to_{self.number[other]} {{", f"iifname != bz1 ip6 hoplimit 1 {unstamp}"]
-            lines += [f"fwd ip6 to fe80::{self.number[other]:x} device {self.port(other)}", "}"]
-        lines += ["chain mine {", unstamp, "}", "chain stamp {", "}"]
-        lines += ["map ways { type ipv6_addr : verdict; flags interval; }", "chain in {"]
-        devices = ", ".join([*map(self.port, self.near[node]), "bz1"])
-        lines.append(f"type filter hook ingress devices = {{ {devices} }} priority 0;")
-        lines += [f"ip6 daddr != {GROUP:x}::/16 accept", "iifname bz1 jump stamp"]
-        return [*lines, "ip6 daddr vmap @ways", "counter drop", "}", "}"]
+        return plane.table({self.number[it]: plane.Way(f"fe80::{self.number[it]:x}", self.port(it)) for it in self.near[node]})
 
     def elements(self, node, found, epoch):
         """The elements of a node's map for its ranges of an epoch."""
-        parts = [f"{address(self.label[node], epoch)} : goto mine"]
-        for first, last, to in found[node]:
-            labels = address(first, epoch) + (f"-{address(last, epoch)}" if first < last else "")
-            parts.append(f"{labels} : goto to_{self.number[to]}")
-        return "element netdev bz ways { " + ", ".join(parts) + " }"
+        row = [(first, last, self.number[to]) for first, last, to in found[node]]
+        return plane.elements(epoch, row, self.label[node])
 
     def install(self, node, found, epoch):
         return self.inside(node, "nft -f -", ["add " + self.elements(node, found, epoch)])
@@ -160,8 +159,7 @@ class Network:
 
     def stamp(self, node, epoch):
         """From now on the node writes this epoch into the packets of its own."""
-        lines = ["flush chain netdev bz stamp", f"add rule netdev bz stamp @nh,192,32 set {stamp_value(epoch)}"]
-        return self.inside(node, "nft -f -", lines)
+        return self.inside(node, "nft -f -", plane.stamp(epoch))
 
     def down(self, a, b):
         """Sets the link between two nodes down, at the end of the first."""

@@ -36,13 +36,13 @@ def refuse(why):
     raise LabError(f"cannot run here: {why}")
 
 
-def refuse_without_tools():
+def refuse_without_tools(tools):
     """LabError where a lab can't be built, as far as that can be told without trying."""
     if not sys.platform.startswith("linux"):
         refuse("it wants Linux")
     if os.geteuid() != 0:
         refuse("it wants root")
-    for tool in ("ip", "nft"):
+    for tool in tools:
         if shutil.which(tool) is None:
             refuse(f"there is no {tool}")
 
@@ -53,7 +53,7 @@ def called(name, *words):
         refuse(f"no namespaces can be made ({name}: {os.strerror(ctypes.get_errno())})")
 
 
-def settle(lifeline):
+def settle(lifeline, probe, what):
     """Makes this process, the first of its namespace, one that ends with its parent, with mounts of its own."""
     libc.prctl(DIE_WITH_PARENT, signal.SIGKILL)
     if select.select([lifeline], [], [], 0)[0]:
@@ -65,16 +65,16 @@ def settle(lifeline):
     called("mount", b"tmpfs", b"/run", b"tmpfs", 0, None)
     libc.mount(b"proc", b"/proc", b"proc", 0, None)  # where it may not be, that of outside does too
     try:
-        play(PROBE)
+        play(probe)
     except LabError as fault:
-        refuse(f"network namespaces with IPv6 and nftables cannot be made ({fault})")
+        refuse(f"network namespaces with IPv6 and {what} cannot be made ({fault})")
 
 
-def first(work, lifeline):
+def first(work, lifeline, probe, what):
     """The first process of the namespace: does the work, and ends with its status."""
     status = 1
     try:
-        settle(lifeline)
+        settle(lifeline, probe, what)
         status = work()
     except LabError as fault:
         print(f"lab: {fault}", file=sys.stderr)
@@ -85,17 +85,18 @@ def first(work, lifeline):
     os._exit(status)
 
 
-def apart(work):
+def apart(work, tools=("ip", "nft"), probe=PROBE, what="nftables"):
     """Does a work in namespaces of its own, and answers its status. However this process ends, also by a signal, all that
-    the work started and made goes with it: a signal kills the first process there, and with that the kernel all others."""
-    refuse_without_tools()
+    the work started and made goes with it: a signal kills the first process there, and with that the kernel all others.
+    The tools have to be there, and the probe, a script of the shell, has to pass there; `what` is what it asks for."""
+    refuse_without_tools(tools)
     lifeline, held = os.pipe()
     sys.stdout.flush()
     called("unshare", NEW_PROCESSES)
     child = os.fork()
     if child == 0:
         os.close(held)
-        first(work, lifeline)
+        first(work, lifeline, probe, what)
 
     def stop(number, _):
         os.kill(child, signal.SIGKILL)

@@ -15,6 +15,7 @@ from .lab_net import LabError
 
 PORT, STREAM_PORT = 7777, 9000
 BODY = struct.Struct("!IHH")  # number, source, destination
+SILENCE = 0.5  # seconds
 HOPS = 255  # the hop limit that each packet starts with
 MOST_AT_ONCE = 32  # packets that are sent without a rest; a sender that is late does not catch up
 STREAM_PART, STREAM_REST = 1000, 0.005  # bytes that are written, and seconds between
@@ -145,21 +146,20 @@ def read_all(sock):
 
 def watch(ready, spaces, board):
     """What each node sent on, as (packet, hop limit, node, next node, epoch), what arrived, as (packet, node), and how many
-    frames were not seen. It ends when it is to stop and half a second was silent."""
+    frames were not seen. It ends when it is to stop and half a second was silent; frames of other traffic do not count."""
     poll, socks, frames, arrivals, early = select.epoll(), {}, [], [], set()
     for i, space in enumerate(spaces):
         for sock, is_arrival in ((open_packets(space), False), (open_udp(space, True), True)):
             socks[sock.fileno()] = i, sock, is_arrival
             poll.register(sock.fileno(), select.EPOLLIN)
     ready()
-    while True:
-        waiting = poll.poll(0.5)
-        if not waiting and board.stop_watch:
-            break
-        for i, sock, is_arrival in [socks[handle] for handle, _ in waiting]:
+    last = time.monotonic()
+    while not board.stop_watch or time.monotonic() - last < SILENCE:
+        for i, sock, is_arrival in [socks[handle] for handle, _ in poll.poll(SILENCE)]:
             if not is_arrival:
-                found = [sent_on(*it) for it in read_all(sock)]
-                frames += [(it[0], it[1], i, it[2], it[3]) for it in found if it]
+                found = [it for it in (sent_on(*it) for it in read_all(sock)) if it]
+                frames += [(it[0], it[1], i, it[2], it[3]) for it in found]
+                last = time.monotonic() if found else last
                 continue
             numbers = [BODY.unpack(it[0])[0] for it in read_all(sock)]
             arrivals += [(number, i) for number in numbers]
@@ -209,8 +209,8 @@ def stream(ready, space, host, board):
 class Traffic:
     """All processes of a lab's traffic, while a `with` lasts."""
 
-    def __init__(self, network, pairs, ends, rate):
-        self.network, self.pairs, self.rate = network, pairs, rate
+    def __init__(self, network, pairs, ends, rate, watching=watch):
+        self.network, self.pairs, self.rate, self.watching = network, pairs, rate, watching
         self.ends = ends
         self.board = Board()
         self.children = []
@@ -224,7 +224,7 @@ class Traffic:
         hosts = [self.network.host(node) for node in self.network.nodes]
         a, b = self.ends
         try:
-            self.watcher = self.start(watch, spaces, self.board)
+            self.watcher = self.start(self.watching, spaces, self.board)
             self.start(sink, self.network.space(b), self.network.host(b), self.board)
             for child in self.children:
                 child.answer(30)

@@ -3,11 +3,14 @@
 That the program's ranges are those of the plan is proved; nothing of this module is. So `check_ranges` compares what was
 read, label by label, with the plan's intervals before it is used.
 """
+from __future__ import annotations
+
 import re
-from typing import Hashable, NamedTuple
+from typing import Any, Hashable, Mapping, NamedTuple, Sequence
 
 from .errors import FormatError
-from .texts import SameNames, headed, number
+from .texts import SAME, NodePlan, Plan, headed, number
+from .typed import Node, NodeNames
 
 
 class Range(NamedTuple):
@@ -21,18 +24,43 @@ class Range(NamedTuple):
 RANGE = re.compile("([0-9]+)-([0-9]+)")
 
 
-def read_range(word, to, line, names):
-    """A range, of a word `FROM-TO` and the one behind it."""
+def read_range(word: str, to: str, line: int, names: NodeNames) -> Range:
+    """A range, of a word `FROM-TO` and the one after it."""
     found = RANGE.fullmatch(word)
     if not found:
         raise FormatError(f"{word!r} is no range", line)
     return Range(int(found[1]), int(found[2]), names.node(to))
 
 
-def read_ranges(text, names=SameNames):
-    """The ranges of each node, of the text that `route ranges` prints; `names` leads names back to nodes."""
+def read_ranges(text: str, names: NodeNames = SAME) -> dict[Any, tuple[Range, ...]]:
+    """The ranges of each node, of the text that `route ranges` prints.
+
+    Parameters
+    ----------
+    text : str
+        What was printed.
+    names : Names, optional
+        What leads names back to nodes; each name is its own node by default.
+
+    Returns
+    -------
+    dict
+        By node, tuples of `Range`.
+
+    Raises
+    ------
+    FormatError
+        If the text is no list of ranges; `line` is the number of the line.
+    UnknownNodeError
+        If a name is no node's.
+
+    Examples
+    --------
+    >>> read_ranges("ranges tree 2 2\\na 0 1-1 b\\nb 1 0-0 a\\n")["a"]
+    (Range(first=1, last=1, to='b'),)
+    """
     first, lines = headed(text, "ranges", 4)
-    nodes = {}
+    nodes: dict[Any, tuple[Range, ...]] = {}
     for line, words in lines:
         if len(words) < 2 or len(words) % 2 != 0:
             raise FormatError("a range without a neighbour", line)
@@ -44,14 +72,32 @@ def read_ranges(text, names=SameNames):
     return nodes
 
 
-def check_ranges(plan, found):
-    """FormatError unless `found` has the ranges of a plan: it goes through all labels of each node, and asks the plan's
-    intervals for the neighbour of each."""
+def check_ranges(plan: Plan, found: Mapping[Any, Sequence[Range]]) -> None:
+    """Compares ranges with a plan: all labels of each node, each with the neighbour of the plan's intervals.
+
+    Parameters
+    ----------
+    plan : Plan
+        The plan.
+    found : mapping
+        By node, sequences of `Range`.
+
+    Raises
+    ------
+    FormatError
+        If a label has another neighbour than in the plan, or the ranges do not ascend.
+
+    Examples
+    --------
+    >>> from bentzolu.texts import read_plan
+    >>> found = read_ranges("ranges tree 2 2\\na 0 1-1 b\\nb 1 0-0 a\\n")
+    >>> check_ranges(read_plan("plan tree 2 2\\na 0 1 b\\nb 1 0 a\\n"), found)
+    """
     if set(found) != set(plan.nodes):
         raise FormatError("the ranges are not of the plan's nodes")
     for name, node in plan.nodes.items():
-        held = [None] * len(plan.nodes)
-        before = None
+        held: list[Node | None] = [None] * len(plan.nodes)
+        before: Range | None = None
         for it in found[name]:
             if not (before.last if before else -1) < it.first <= it.last < len(held):
                 raise FormatError(f"a range of {name!r} does not ascend")
@@ -59,6 +105,18 @@ def check_ranges(plan, found):
                 raise FormatError(f"two ranges of {name!r} that touch go to one neighbour")
             held[it.first : it.last + 1] = [it.to] * (it.last + 1 - it.first)
             before = it
-        for label, to in enumerate(held):
-            if to != (None if label == node.label else node.to(label)):
-                raise FormatError(f"the ranges of {name!r} have another neighbour than the plan for the label {label}")
+        wanted = neighbours_of(node, len(held))
+        if held != wanted:
+            label = next(label for label, pair in enumerate(zip(held, wanted)) if pair[0] != pair[1])
+            raise FormatError(f"the ranges of {name!r} have another neighbour than the plan for the label {label}")
+
+
+def neighbours_of(node: NodePlan, count: int) -> list[Node | None]:
+    """The neighbour of a node's intervals for each of so many labels; None for the node's own."""
+    starts, to = node.starts, node.neighbours
+    found: list[Node | None] = [to[-1] if to else None] * count
+    for start, end, neighbour in zip(starts, (*starts[1:], count), to):
+        found[start:end] = [neighbour] * (min(end, count) - start)
+    if 0 <= node.label < count:
+        found[node.label] = None
+    return found

@@ -2,6 +2,8 @@
 
 GML, GraphML, GEXF, Pajek, graph6 and sparse6 are read by NetworkX; the other readers are here and need nothing.
 """
+from __future__ import annotations
+
 import ast
 import csv
 import io
@@ -9,30 +11,33 @@ import json
 import math
 import re
 import xml.etree.ElementTree as ElementTree
+from fractions import Fraction
+from typing import Any, Iterator, Mapping
 
 from .errors import BentzoluError, FormatError
 from .graphs import as_fraction
+from .typed import Attributes, Graph
 
 
 class Network:
-    """Nodes in order, and for each edge its attributes. An edge stands as it was read: in one direction, maybe often.
-    `directed` tells whether the text said that its edges have directions."""
+    """Nodes in order, and for each edge its attributes. An edge is kept as it was read: in one direction, maybe often.
+    `directed` is whether the text said that its edges have directions."""
 
-    def __init__(self, directed=False):
-        self.nodes = {}
-        self.edges = []
+    def __init__(self, directed: bool = False) -> None:
+        self.nodes: dict[Any, None] = {}
+        self.edges: list[tuple[Any, Any, Attributes]] = []
         self.directed = directed
 
-    def add_node(self, node):
+    def add_node(self, node: Any) -> None:
         self.nodes.setdefault(node)
 
-    def add_edge(self, source, target, attributes=None):
+    def add_edge(self, source: Any, target: Any, attributes: Mapping[str, Any] | None = None) -> None:
         self.add_node(source)
         self.add_node(target)
         self.edges.append((source, target, dict(attributes or {})))
 
 
-def decimal(word, line=None):
+def decimal(word: Any, line: int | None = None) -> Fraction:
     """A word as an exact number."""
     found = as_fraction(word)
     if found is None:
@@ -40,7 +45,7 @@ def decimal(word, line=None):
     return found
 
 
-def plain_lines(text, comment="#"):
+def plain_lines(text: str, comment: str = "#") -> Iterator[tuple[int, str]]:
     """The lines that have words, each as its number and its text without a comment."""
     for i, line in enumerate(text.splitlines()):
         line = line.split(comment, 1)[0].strip()
@@ -48,7 +53,7 @@ def plain_lines(text, comment="#"):
             yield i + 1, line
 
 
-def of_networkx(graph):
+def of_networkx(graph: Graph) -> Network:
     """A graph of NetworkX as a network."""
     network = Network(graph.is_directed())
     for node in graph.nodes:
@@ -58,7 +63,8 @@ def of_networkx(graph):
     return network
 
 
-def networkx_for(format):
+def networkx_for(format: str) -> Any:
+    """NetworkX, by which a format is read."""
     try:
         import networkx
     except ImportError:
@@ -66,7 +72,7 @@ def networkx_for(format):
     return networkx
 
 
-def read_gml(text):
+def read_gml(text: str) -> Network:
     """GML, by NetworkX: nodes by their labels, or by their ids where labels are missing or come twice."""
     networkx = networkx_for("GML")
     errors = []
@@ -78,7 +84,7 @@ def read_gml(text):
     raise FormatError("; ".join(dict.fromkeys(errors)))
 
 
-def labelled(networkx, graph):
+def labelled(networkx: Any, graph: Graph) -> Graph:
     """A graph whose nodes are their attributes `label`, where each has one of its own."""
     labels = [data.get("label") for _, data in graph.nodes(data=True)]
     if None not in labels and len(set(labels)) == len(labels):
@@ -86,7 +92,7 @@ def labelled(networkx, graph):
     return graph
 
 
-def read_graphml(text):
+def read_graphml(text: str) -> Network:
     """GraphML, by NetworkX: nodes by their attribute `label` where each has one of its own, else by their ids."""
     networkx = networkx_for("GraphML")
     try:
@@ -96,12 +102,12 @@ def read_graphml(text):
     return of_networkx(labelled(networkx, graph))
 
 
-def hashed(node):
+def hashed(node: Any) -> Any:
     """A JSON value as a node: lists as tuples."""
     return tuple(map(hashed, node)) if isinstance(node, list) else node
 
 
-def read_json(text):
+def read_json(text: str) -> Network:
     """Node-link JSON: `nodes` with `id`, and `links` or `edges` with `source` and `target`."""
     try:
         found = json.loads(text)
@@ -118,14 +124,14 @@ def read_json(text):
     return network
 
 
-def kilometres(a, b):
+def kilometres(a: tuple[float, float], b: tuple[float, float]) -> float:
     """The distance along a great circle of an earth with a radius of 6,371 km, of longitudes and latitudes in degrees."""
     (east, north), (other_east, other_north) = (map(math.radians, place) for place in (a, b))
     haversine = math.sin((other_north - north) / 2) ** 2 + math.cos(north) * math.cos(other_north) * math.sin((other_east - east) / 2) ** 2
     return 2 * 6371 * math.asin(min(1, math.sqrt(haversine)))
 
 
-def with_distances(network, places, geographical):
+def with_distances(network: Network, places: Mapping[Any, tuple[float, float]], geographical: bool) -> Network:
     """Gives each edge whose ends have places its `distance`: whole kilometres, or units of the drawing."""
     measure = kilometres if geographical else math.dist
     for source, target, attributes in network.edges:
@@ -138,8 +144,8 @@ SNDLIB_NODE = re.compile(r"(\S+)\s*\(\s*(\S+)\s+(\S+)\s*\)")
 SNDLIB_LINK = re.compile(r"(\S+)\s*\(\s*(\S+)\s+(\S+)\s*\)\s*(\S+)\s+(\S+)\s+(\S+)\s+(\S+)\s*\(([^)]*)\)")
 
 
-def section(text, name):
-    """What stands between the brackets of a section of SNDlib's native format."""
+def section(text: str, name: str) -> str:
+    """What is between the brackets of a section of SNDlib's native format."""
     found = re.search(rf"^\s*{name}\s*\(", text, re.MULTILINE)
     if not found:
         raise FormatError(f"no section {name}")
@@ -152,10 +158,11 @@ def section(text, name):
     return text[found.end(): at - 1]
 
 
-def read_sndlib(text):
+def read_sndlib(text: str) -> Network:
     """SNDlib's native text: edges with `capacity`, `routing_cost`, `setup_cost` and `distance`."""
     bare = re.sub(r"#.*", "", text)
-    network, places = Network(), {}
+    network = Network()
+    places: dict[Any, tuple[float, float]] = {}
     for name, x, y in SNDLIB_NODE.findall(section(bare, "NODES")):
         network.add_node(name)
         places[name] = float(decimal(x)), float(decimal(y))
@@ -167,23 +174,24 @@ def read_sndlib(text):
     return with_distances(network, places, all(abs(x) <= 180 and abs(y) <= 90 for x, y in places.values()))
 
 
-def local(element):
+def local(element: ElementTree.Element) -> str:
     """The name of an element without its namespace."""
     return element.tag.rsplit("}", 1)[-1]
 
 
-def inner(element, name):
+def inner(element: ElementTree.Element, name: str) -> str | None:
     """The text of the first element of this name below another, or None."""
     return next((found.text.strip() for found in element.iter() if local(found) == name and found.text), None)
 
 
-def read_sndlib_xml(text):
+def read_sndlib_xml(text: str) -> Network:
     """SNDlib's XML: as its native text."""
     try:
         top = ElementTree.fromstring(text)
     except ElementTree.ParseError as error:
         raise FormatError(str(error)) from None
-    network, places, geographical = Network(), {}, True
+    network, geographical = Network(), True
+    places: dict[Any, tuple[float, float]] = {}
     for element in top.iter():
         if local(element) == "nodes":
             geographical = element.get("coordinatesType", "geographical") == "geographical"
@@ -201,18 +209,18 @@ def read_sndlib_xml(text):
     return with_distances(network, places, geographical)
 
 
-def read_rocketfuel(text):
+def read_rocketfuel(text: str) -> Network:
     """Rocketfuel's weights: a line has two places without blanks and a decimal weight."""
     network = Network()
-    for line, words in plain_lines(text):
-        words = words.split("\t") if words.count("\t") == 2 else words.split()
+    for line, said in plain_lines(text):
+        words = said.split("\t") if said.count("\t") == 2 else said.split()
         if len(words) != 3:
             raise FormatError("not two names and a weight", line)
         network.add_edge(words[0], words[1], {"weight": decimal(words[2], line)})
     return network
 
 
-def read_caida(text):
+def read_caida(text: str) -> Network:
     """CAIDA's links of autonomous systems: `A|B|RELATION`, or the lines `D A B ..` of the files of links seen."""
     network = Network()
     for line, words in plain_lines(text):
@@ -230,7 +238,7 @@ def read_caida(text):
 HEADS = {"source", "target", "from", "to", "u", "v", "node", "node1", "node2", "a", "b", "src", "dst", "start", "end"}
 
 
-def is_head(row):
+def is_head(row: list[str]) -> bool:
     """Whether a first row names columns: a third cell that is no number, or two names of columns with `weight` or nothing."""
     words = [cell.strip().lower() for cell in row]
     if len(words) >= 3 and words[2]:
@@ -238,7 +246,7 @@ def is_head(row):
     return words[0] in HEADS and words[1] in HEADS and {words[0], words[1]} != {"a", "b"}
 
 
-def read_csv(text):
+def read_csv(text: str) -> Network:
     """Rows `u,v` or `u,v,weight`, divided by commas, semicolons or tabs, with or without a row of heads."""
     first = next((line for line in text.splitlines() if line.strip()), "")
     mark = next((mark for mark in (",", ";", "\t") if mark in first), ",")
@@ -258,15 +266,16 @@ def read_csv(text):
     return network
 
 
-def read_matrix_market(text):
+def read_matrix_market(text: str) -> Network:
     """A sparse square matrix of MatrixMarket: its rows are the nodes 1 to n, and an entry that is not 0 an edge."""
     lines = text.splitlines()
     head = lines[0].lower().split() if lines else []
     if head[:3] != ["%%matrixmarket", "matrix", "coordinate"] or len(head) < 5 or head[3] not in ("real", "integer", "pattern"):
         raise FormatError("not 'matrix coordinate' of real, integer or pattern", 1)
-    network, size = Network(), None
-    for line, words in plain_lines("\n" + "\n".join(lines[1:]), "%"):
-        words = words.split()
+    network = Network()
+    size: int | None = None
+    for line, said in plain_lines("\n" + "\n".join(lines[1:]), "%"):
+        words = said.split()
         if size is None:
             if len(words) != 3 or words[0] != words[1] or not words[0].isdigit():
                 raise FormatError("not the size of a square matrix", line)
@@ -276,13 +285,13 @@ def read_matrix_market(text):
             continue
         if len(words) != (2 if head[3] == "pattern" else 3) or not all(word.isdigit() and 1 <= int(word) <= size for word in words[:2]):
             raise FormatError("no entry of the matrix", line)
-        weight = 1 if head[3] == "pattern" else decimal(words[2], line)
+        weight = Fraction(1) if head[3] == "pattern" else decimal(words[2], line)
         if weight != 0:
             network.add_edge(int(words[0]), int(words[1]), {"weight": weight})
     return network
 
 
-def read_gexf(text):
+def read_gexf(text: str) -> Network:
     """GEXF, by NetworkX: nodes by their labels where each has one of its own, else by their ids."""
     networkx = networkx_for("GEXF")
     try:
@@ -295,7 +304,7 @@ def read_gexf(text):
     return network
 
 
-def read_pajek(text):
+def read_pajek(text: str) -> Network:
     """Pajek's `*Vertices` and `*Edges` or `*Arcs`, by NetworkX: nodes by their labels."""
     networkx = networkx_for("Pajek")
     try:
@@ -304,8 +313,8 @@ def read_pajek(text):
         raise FormatError(f"no network of Pajek: {error}") from None
 
 
-def read_one_line(text, name, front, read):
-    """The graph of the one line of a text, by a reader of bytes; `front` may stand before it."""
+def read_one_line(text: str, name: str, front: str, read: str) -> Network:
+    """The graph of the one line of a text, by a reader of bytes; `front` may come before it."""
     networkx = networkx_for(name)
     lines = [line.strip() for line in text.splitlines() if line.strip()]
     if len(lines) != 1:
@@ -316,12 +325,12 @@ def read_one_line(text, name, front, read):
         raise FormatError(f"no {name}: {error}") from None
 
 
-def read_graph6(text):
+def read_graph6(text: str) -> Network:
     """The graph of one line in graph6, by NetworkX: its nodes are 0 to n-1."""
     return read_one_line(text, "graph6", ">>graph6<<", "from_graph6_bytes")
 
 
-def read_sparse6(text):
+def read_sparse6(text: str) -> Network:
     """The graph of one line in sparse6, by NetworkX: its nodes are 0 to n-1."""
     return read_one_line(text, "sparse6", ">>sparse6<<", "from_sparse6_bytes")
 
@@ -330,7 +339,7 @@ WORD = re.compile(r"\s*([({#]|[^\s#]+)")
 INSIDE = re.compile(r"""'(?:[^'\\]|\\.)*'|"(?:[^"\\]|\\.)*"|[][(){}]|[^][(){}'"]+|['"]""")
 
 
-def closed(text, at, line):
+def closed(text: str, at: int, line: int) -> int:
     """Where the bracket that opens at a place is closed."""
     depth = 0
     for found in INSIDE.finditer(text, at):
@@ -340,17 +349,18 @@ def closed(text, at, line):
     raise FormatError("a bracket that is not closed", line)
 
 
-def python_words(text, line):
+def python_words(text: str, line: int) -> list[str]:
     """The words of a line as NetworkX writes them, up to a comment: one that begins with a bracket goes on to where it is
     closed."""
-    words, at = [], 0
+    words: list[str] = []
+    at = 0
     while (found := WORD.match(text, at)) and found[1] != "#":
         at = found.end() if found[1] not in ("(", "{") else closed(text, found.start(1), line)
         words.append(text[found.start(1): at])
     return words
 
 
-def python_node(word):
+def python_node(word: str) -> Any:
     """A word as a node: a tuple that Python can read, or else the word."""
     if word.startswith("("):
         try:
@@ -362,7 +372,7 @@ def python_node(word):
     return word
 
 
-def python_data(word, line):
+def python_data(word: str, line: int) -> dict[Any, Any]:
     """The attributes that a dictionary in Python's writing has."""
     try:
         found = ast.literal_eval(word)
@@ -373,7 +383,7 @@ def python_data(word, line):
     return found
 
 
-def list_lines(text):
+def list_lines(text: str) -> Iterator[tuple[int, list[str]]]:
     """The lines of a list of NetworkX that have words: the number and the words of each."""
     for i, line in enumerate(text.splitlines()):
         words = python_words(line, i + 1)
@@ -381,7 +391,7 @@ def list_lines(text):
             yield i + 1, words
 
 
-def read_adjlist(text):
+def read_adjlist(text: str) -> Network:
     """An adjacency list of NetworkX: a node and its neighbours in each line. Tuples are read as one word."""
     network = Network()
     for line, words in list_lines(text):
@@ -394,7 +404,7 @@ def read_adjlist(text):
     return network
 
 
-def read_edgelist(text):
+def read_edgelist(text: str) -> Network:
     """An edge list of NetworkX: two nodes, and nothing, a weight, or a dictionary of attributes. Tuples are read as one
     word."""
     network = Network()
@@ -402,7 +412,7 @@ def read_edgelist(text):
         if len(words) == 1:
             network.add_node(python_node(words[0]))
             continue
-        data = {}
+        data: Attributes = {}
         if len(words) == 3:
             data = python_data(words[2], line) if words[2].startswith("{") else {"weight": decimal(words[2], line)}
         elif len(words) > 3:
@@ -411,10 +421,11 @@ def read_edgelist(text):
     return network
 
 
-def read_multiline(text):
+def read_multiline(text: str) -> Network:
     """A multiline adjacency list of NetworkX: a node and the number of its neighbours, then each of them in a line of its
     own, with a dictionary of attributes or none. Tuples are read as one word."""
-    network, left, node = Network(), 0, None
+    network, left = Network(), 0
+    node: Any = None
     for line, words in list_lines(text):
         if left == 0:
             if len(words) != 2 or not words[1].isdigit():

@@ -1,17 +1,24 @@
 """Tables in HTML, for notebooks: of plans, forwarding tables, walks, figures and runs."""
+from __future__ import annotations
+
 from html import escape
+from typing import TYPE_CHECKING, Any, Iterable, Sequence, Sized
+
+if TYPE_CHECKING:
+    from . import texts
 
 MOST_ROWS = 40  # of a table
 MOST_WORDS = 24  # intervals, prefixes or hops of a row
 
 
-def cell(value, tag="td"):
+def cell(value: object, tag: str = "td") -> str:
     return f"<{tag}>{escape(str(value))}</{tag}>"
 
 
-def table(caption, heads, rows, count=None):
-    """A table whose first rows stand there, and how many more there are; `count` is their number, where rows is no list."""
-    count = len(rows) if count is None else count
+def table(caption: str, heads: Sequence[str], rows: Iterable[Sequence[object]], count: int | None = None) -> str:
+    """A table of the first rows, and how many more there are; `count` is the number of rows, if they are no list."""
+    if count is None:
+        count = len(rows) if isinstance(rows, Sized) else 0
     lines = ["<table>", f"<caption>{escape(caption)}</caption>"]
     lines.append("<thead><tr>" + "".join(cell(head, "th") for head in heads) + "</tr></thead>")
     lines.append("<tbody>")
@@ -23,34 +30,34 @@ def table(caption, heads, rows, count=None):
     return "\n".join([*lines, "</table>"])
 
 
-def joined(words):
+def joined(words: Iterable[object]) -> str:
     """Words with blanks between them, and how many more there are."""
     words = list(words)
     more = [f".. and {len(words) - MOST_WORDS:,} more"] if len(words) > MOST_WORDS else []
     return " ".join([*map(str, words[:MOST_WORDS]), *more])
 
 
-def by_port(node):
+def by_port(node: texts.NodePlan) -> str:
     """The intervals of a node by the neighbours that they lead to: `[2,3) → d`."""
     ports = node.by_neighbour().items()
     return joined(f"{''.join(f'[{it.start},{it.end})' for it in found)} → {to}" for to, found in ports)
 
 
-def plan(found):
+def plan(found: texts.Plan) -> str:
     rows = ((it.node, it.label, by_port(it)) for it in found.nodes.values())
     return table(repr(found)[1:-1], ("node", "label", "intervals"), rows, len(found.nodes))
 
 
-def prefixes(found):
-    def spelled(it):
+def prefixes(found: texts.Prefixes) -> str:
+    def spelled(it: texts.Prefix) -> str:
         return f"{it.value}/{it.length} → {'dropped' if it.to is None else it.to}"
 
     rows = ((it.node, it.label, joined(map(spelled, it.prefixes))) for it in found.nodes.values())
     return table(repr(found)[1:-1], ("node", "label", "prefixes"), rows, len(found.nodes))
 
 
-def walk(found):
-    rows = [
+def walk(found: texts.Walk) -> str:
+    rows: list[tuple[Any, ...]] = [
         (it.node, it.label, f"[{it.interval.start},{it.interval.end})", it.interval.to, it.weight)
         if it.interval else (it.node, it.label, "", "", "") for it in found.steps
     ]
@@ -58,7 +65,7 @@ def walk(found):
     return table(caption, ("node", "label", "interval", "to", "weight"), rows)
 
 
-def stats(found):
+def stats(found: texts.Stats) -> str:
     node, length = found.greatest_row
     rows = [
         ("nodes", f"{found.nodes:,}"), ("links", f"{found.links:,}"), ("intervals", f"{found.starts:,}"),
@@ -79,8 +86,8 @@ def stats(found):
     return table(f"Stats {found.kind}", ("figure", "value"), rows)
 
 
-def run(found):
-    def segment(it):
+def run(found: texts.Run) -> str:
+    def segment(it: texts.Segment) -> str:
         return f"epoch {it.epoch}: {joined(it.hops)}"
 
     rows = (

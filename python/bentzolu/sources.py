@@ -1,15 +1,19 @@
 """What the calls take: a graph, a list of edges or a path for a network; steps, a text or a path for a script."""
+from __future__ import annotations
+
 import os
 import pathlib
 import re
 import warnings
+from typing import Any, Iterable, Sequence
 
 from . import convert
 from .errors import StepError, TopologyWarning, UnknownNodeError
 from .graphs import prepared
 from .texts import SameNames
+from .typed import NameTable, Network, NodeNames, Text
 
-OPERANDS = {
+OPERANDS: dict[str, tuple[str, ...]] = {
     "inject": ("node", "node"), "drain": (), "down": ("node", "node"), "up": ("node", "node"), "install": ("word", "node"),
     "retire": ("number",), "learn": ("number",), "read": ("node", "number"), "act": ("node",),
 }
@@ -20,37 +24,38 @@ class FileNames(SameNames):
     """The table of a file that `route` reads itself: each node is a string, and its own name."""
 
     @staticmethod
-    def name(node):
+    def name(node: Any) -> str:
         if not isinstance(node, str):
             raise UnknownNodeError(f"the nodes of a file are strings, and {node!r} is none")
         return node
 
     @staticmethod
-    def changed():
+    def changed() -> list[tuple[Any, str]]:
+        """No node has another name than its own."""
         return []
 
-    def __repr__(self):
+    def __repr__(self) -> str:
         return "<Names of a file: each node is its own name>"
 
 
 class Topology:
     """A network as `route` gets it: the table of its names, its text or its path, and what was changed of it."""
 
-    def __init__(self, names, text, notes=()):
+    def __init__(self, names: NameTable, text: Text, notes: Iterable[str] = ()) -> None:
         self.names, self.text, self.notes = names, text, tuple(notes)
 
     @property
-    def options(self):
-        """The words that say in which format it is; that of a file is told by its name."""
+    def options(self) -> list[str]:
+        """The words that say in which format it is; a file's name says it for a file."""
         return [] if isinstance(self.text, pathlib.Path) else ["--format", "edgelist"]
 
-    def warn(self, further=(), depth=4):
+    def warn(self, further: Sequence[str] = (), depth: int = 4) -> None:
         """Warns of what was changed, and of the program's notes on a file that it read itself, so many calls above."""
         for note in (*self.notes, *(further if isinstance(self.text, pathlib.Path) else ())):
             warnings.warn(note, TopologyWarning, stacklevel=depth)
 
 
-def read_text(path):
+def read_text(path: str | os.PathLike[str]) -> str:
     """The text of a file, in UTF-8 or else in Latin-1."""
     data = pathlib.Path(path).read_bytes()
     try:
@@ -59,12 +64,14 @@ def read_text(path):
         return data.decode("latin-1")
 
 
-def is_plain(text):
+def is_plain(text: str) -> bool:
     """Whether no word of a list begins as a tuple or a dictionary of Python does."""
     return re.search(r"(?:^|[ \t])[({]", text, re.MULTILINE) is None
 
 
-def of_file(path, format=None, weight="weight", largest=False):
+def of_file(
+    path: str | os.PathLike[str], format: str | None = None, weight: str | None = "weight", largest: bool = False,
+) -> Topology:
     """The network of a file: as it is where `route` reads it itself; read here and made an edge list where its format is
     another, where a list has tuples or attributes, or where other weights are wanted."""
     path = pathlib.Path(path)
@@ -73,26 +80,26 @@ def of_file(path, format=None, weight="weight", largest=False):
     if format is None and found in OWN and weight == "weight" and is_plain(text) and path.is_file():
         return Topology(FileNames(), path)
     found = found or "adjlist"
-    chosen = {"weight": None, None: "1"}.get(weight, weight)
+    chosen = "1" if weight is None else None if weight == "weight" else weight
     edges, names, notes = convert.converted(text, found, largest, chosen)
     return Topology(names, edges, [f"{path.name}: {found}: {note}" for note in notes[1:]])
 
 
-def topology_of(graph, weight):
+def topology_of(graph: Network, weight: str | None) -> Topology:
     """A network of a graph of NetworkX, a list of edges, or the path of a file."""
     if isinstance(graph, (str, os.PathLike)):
         return of_file(graph, weight=weight)
     return Topology(*prepared(graph, weight))
 
 
-def word_of(operand, kind, names):
+def word_of(operand: Any, kind: str, names: NodeNames) -> str:
     """An operand of a step as a word."""
     if kind == "node":
         return names.name(operand)
     return str(operand)
 
 
-def line_of(step, names):
+def line_of(step: Any, names: NodeNames) -> str:
     """A step as a line of a script. A string is a line as it is; else a step is a tuple, as `("inject", a, b)`,
     `("drain",)`, `("install", "shortest", root)`, `("take", node, "inbox")` or `("take", node, "from", other)`."""
     if isinstance(step, str):
@@ -116,7 +123,7 @@ def line_of(step, names):
     return " ".join([name, *(word_of(operand, kind, names) for operand, kind in zip(operands, kinds))])
 
 
-def script_of(steps, names):
+def script_of(steps: Any, names: NodeNames) -> tuple[str, list[Any]]:
     """The text of a script and its steps, one a line. A string is a whole script, and a path that of a file with one; there
     the nodes have the names that `names_of` gives them."""
     if isinstance(steps, os.PathLike):

@@ -1,4 +1,6 @@
 """What `route` prints, as data: plans, walks, figures, forwarding tables, traces and findings."""
+from __future__ import annotations
+
 import re
 from array import array
 from bisect import bisect_right
@@ -6,20 +8,21 @@ from collections import Counter
 from dataclasses import dataclass, field
 from fractions import Fraction
 from functools import cached_property
-from typing import Any, Dict, Hashable, NamedTuple, Optional, Tuple
+from typing import Any, Callable, Dict, Hashable, Iterable, Mapping, NamedTuple, Optional, Sequence, Tuple
 
 from . import shown
 from .errors import FormatError, UnknownNodeError
+from .typed import Node, NodeNames
 
 MOST_SHOWN = 16  # the most intervals, nodes or steps that a representation has
 
 
-def counted(number, one, more=None):
+def counted(number: int, one: str, more: str | None = None) -> str:
     """A number of things with their name."""
     return f"{number:,} {one if number == 1 else more or one + 's'}"
 
 
-def array_of(numbers):
+def array_of(numbers: list[int]) -> Any:
     """Whole numbers as an array of NumPy where that is there, else of `array`."""
     try:
         import numpy
@@ -32,12 +35,15 @@ class SameNames:
     """The table in which each node is its own name."""
 
     @staticmethod
-    def name(node):
-        return node
+    def name(node: Any) -> str:
+        return str(node)
 
     @staticmethod
-    def node(name):
+    def node(name: str) -> Any:
         return name
+
+
+SAME = SameNames()
 
 
 @dataclass(frozen=True)
@@ -51,7 +57,7 @@ class Interval:
     end: int
     to: Hashable
 
-    def __contains__(self, label):
+    def __contains__(self, label: int) -> bool:
         if self.start < self.end:
             return self.start <= label < self.end
         return label >= self.start or label < self.end
@@ -66,82 +72,88 @@ class NodePlan:
 
     __slots__ = ("node", "label", "_row", "_names", "_starts", "_neighbours", "_intervals")
 
-    def __init__(self, node, label, intervals=()):
+    def __init__(self, node: Any, label: int, intervals: Iterable[Interval] = ()) -> None:
+        given = tuple(intervals)
         self.node, self.label = node, label
-        self._row = self._names = None
-        self._intervals = tuple(intervals)
-        self._starts = tuple(it.start for it in self._intervals)
-        self._neighbours = tuple(it.to for it in self._intervals)
+        self._row: str = ""
+        self._names: NodeNames = SAME
+        self._intervals: tuple[Interval, ...] | None = given
+        self._starts: tuple[int, ...] | None = tuple(it.start for it in given)
+        self._neighbours: tuple[Any, ...] = tuple(it.to for it in given)
 
     @classmethod
-    def of_row(cls, node, label, row, names):
+    def of_row(cls, node: Any, label: int, row: str, names: NodeNames) -> NodePlan:
         """A node whose row is the text `START NEIGHBOUR ..`, with names that the table `names` leads back to nodes."""
         made = cls(node, label)
         made._row, made._names, made._starts = row, names, None
         return made
 
-    def _read(self):
-        """Reads the row, where it was not yet."""
+    def _read(self) -> tuple[int, ...]:
+        """The starts, of the row where it was not yet read."""
         if self._starts is None:
             words = self._row.split(" ") if self._row else []
             self._starts, self._neighbours = tuple(map(int, words[::2])), tuple(map(self._names.node, words[1::2]))
             self._intervals = None
-
-    @property
-    def starts(self):
-        self._read()
         return self._starts
 
     @property
-    def neighbours(self):
+    def starts(self) -> tuple[int, ...]:
+        """The labels at which the intervals begin."""
+        return self._read()
+
+    @property
+    def neighbours(self) -> tuple[Any, ...]:
+        """The neighbour of each interval."""
         self._read()
         return self._neighbours
 
     @property
-    def intervals(self):
-        self._read()
+    def intervals(self) -> tuple[Interval, ...]:
+        """The intervals, by ascending starts."""
+        starts = self._read()
         if self._intervals is None:
-            starts = self._starts
             self._intervals = tuple(map(Interval, starts, starts[1:] + starts[:1], self._neighbours))
         return self._intervals
 
-    def __len__(self):
+    def __len__(self) -> int:
         """The number of intervals."""
         if self._starts is None:
             return (self._row.count(" ") + 1) // 2 if self._row else 0
         return len(self._starts)
 
-    def __bool__(self):
+    def __bool__(self) -> bool:
         return True
 
-    def to(self, label):
+    def to(self, label: int) -> Any:
         """The neighbour to which packets for a label go; None at a node without an interval."""
         starts = self.starts
         return self._neighbours[bisect_right(starts, label) - 1] if starts else None
 
-    def by_neighbour(self):
+    def by_neighbour(self) -> dict[Any, list[Interval]]:
         """The intervals of each neighbour that has some, neighbours by their first interval."""
-        found = {}
+        found: dict[Any, list[Interval]] = {}
         for interval in self.intervals:
             found.setdefault(interval.to, []).append(interval)
         return found
 
-    def _key(self):
+    def _key(self) -> tuple[Any, ...]:
         return self.node, self.label, self.starts, self.neighbours
 
-    def __eq__(self, other):
-        return self._key() == other._key() if isinstance(other, NodePlan) else NotImplemented
+    def __eq__(self, other: object) -> bool:
+        if not isinstance(other, NodePlan):
+            return NotImplemented
+        return self._key() == other._key()
 
-    def __hash__(self):
+    def __hash__(self) -> int:
         return hash((self.node, self.label))
 
-    def __repr__(self):
+    def __repr__(self) -> str:
         said = [f"{interval_text(it)} to {it.to!r}" for it in self.intervals[:MOST_SHOWN]]
         said += [f"{len(self) - MOST_SHOWN} more"] if len(self) > MOST_SHOWN else []
         return f"<NodePlan {self.node!r}: label {self.label}; {', '.join(said) or 'no interval'}>"
 
 
-def interval_text(interval):
+def interval_text(interval: Interval) -> str:
     """An interval in the writing of `route draw`."""
     return f"[{interval.start},{interval.end})"
 
@@ -149,18 +161,20 @@ def interval_text(interval):
 class ByNode:
     """What a plan and its prefixes share: something for each node, by which packets find their way."""
 
-    def _at(self, node):
+    nodes: Any
+
+    def _at(self, node: Any) -> Any:
         try:
             return self.nodes[node]
         except (KeyError, TypeError):
             raise UnknownNodeError(f"the plan has no node {node!r}") from None
 
     @property
-    def labels(self):
+    def labels(self) -> dict[Any, int]:
         """The label of each node."""
         return {node: it.label for node, it in self.nodes.items()}
 
-    def path(self, source, target):
+    def path(self, source: Any, target: Any) -> list[Any]:
         """The nodes from source to target, each found by what the node before has for the target's label.
 
         It asks no program, so many paths of one graph are best had from one plan. UnknownNodeError is raised where the
@@ -181,7 +195,7 @@ class Plan(ByNode):
     node of the graph. In a notebook a plan is shown as a table.
 
     As arrays, with the nodes numbered in their order in `nodes`: `starts` has the labels at which the intervals of all
-    nodes begin, `ports` the number of the neighbour of each, and those of node i stand from `rows[i]` up to but without
+    nodes begin, `ports` the number of the neighbour of each, and those of node i are at `rows[i]` up to but without
     `rows[i + 1]`. They are arrays of NumPy where that is there, else of `array`.
     """
 
@@ -189,36 +203,41 @@ class Plan(ByNode):
     nodes: Dict[Hashable, NodePlan]
 
     @cached_property
-    def _arrays(self):
+    def _arrays(self) -> tuple[Any, Any, Any]:
         numbers = {node: i for i, node in enumerate(self.nodes)}
-        starts, ports, rows = [], [], [0]
+        starts: list[int] = []
+        ports: list[int] = []
+        rows = [0]
         for it in self.nodes.values():
             starts += it.starts
             ports += map(numbers.__getitem__, it.neighbours)
             rows.append(len(starts))
-        return tuple(map(array_of, (starts, ports, rows)))
+        return array_of(starts), array_of(ports), array_of(rows)
 
     @property
-    def starts(self):
+    def starts(self) -> Any:
+        """The labels at which the intervals of all nodes begin."""
         return self._arrays[0]
 
     @property
-    def ports(self):
+    def ports(self) -> Any:
+        """The number of the neighbour of each interval."""
         return self._arrays[1]
 
     @property
-    def rows(self):
+    def rows(self) -> Any:
+        """Where the intervals of each node begin, and the end."""
         return self._arrays[2]
 
     @property
-    def intervals(self):
+    def intervals(self) -> int:
         """The number of intervals of all nodes."""
         return sum(map(len, self.nodes.values()))
 
-    def __repr__(self):
+    def __repr__(self) -> str:
         return f"<Plan {self.kind} of {counted(len(self.nodes), 'node')}: {counted(self.intervals, 'interval')}>"
 
-    def _repr_html_(self):
+    def _repr_html_(self) -> str:
         return shown.plan(self)
 
 
@@ -232,7 +251,7 @@ class Prefix:
     bits: int
     to: Optional[Hashable]
 
-    def __contains__(self, label):
+    def __contains__(self, label: int) -> bool:
         rest = self.bits - self.length
         return label >> self.bits == 0 and label >> rest == self.value >> rest
 
@@ -245,7 +264,7 @@ class NodePrefixes:
     label: int
     prefixes: Tuple[Prefix, ...]
 
-    def to(self, label):
+    def to(self, label: int) -> Any:
         """The neighbour of the longest prefix that holds a label; None where none does, or one without a neighbour."""
         return next((it.to for it in self.prefixes if label in it), None)
 
@@ -260,15 +279,15 @@ class Prefixes(ByNode):
     nodes: Dict[Hashable, NodePrefixes]
 
     @property
-    def prefixes(self):
+    def prefixes(self) -> int:
         """The number of prefixes of all nodes."""
         return sum(len(it.prefixes) for it in self.nodes.values())
 
-    def __repr__(self):
+    def __repr__(self) -> str:
         said = f"{counted(self.prefixes, 'prefix', 'prefixes')} of at most {counted(self.bits, 'bit')}"
         return f"<Prefixes {self.kind} of {counted(len(self.nodes), 'node')}: {said}>"
 
-    def _repr_html_(self):
+    def _repr_html_(self) -> str:
         return shown.prefixes(self)
 
 
@@ -298,17 +317,17 @@ class Walk:
     steps: Tuple[WalkStep, ...]
 
     @property
-    def path(self):
+    def path(self) -> list[Any]:
         """The nodes of the walk."""
         return [step.node for step in self.steps]
 
-    def __repr__(self):
+    def __repr__(self) -> str:
         said = [repr(node) for node in self.path]
         if len(said) > MOST_SHOWN:
             said[MOST_SHOWN // 2: -MOST_SHOWN // 2] = [".."]
         return f"<Walk {self.kind}: {' '.join(said)}, weight {self.weight}>"
 
-    def _repr_html_(self):
+    def _repr_html_(self) -> str:
         return shown.walk(self)
 
 
@@ -322,7 +341,7 @@ class Worst:
     distance: int
 
     @property
-    def stretch(self):
+    def stretch(self) -> Fraction:
         """How many times the distance the walk is, exactly."""
         return Fraction(self.walk, self.distance)
 
@@ -352,7 +371,7 @@ class Stats:
     over all ordered pairs of nodes; `worst` is the first pair of the greatest stretch, and `compactness` the first port
     with the most intervals (both None for a single node). `dependencies` is empty where no ring of links can wait for
     each other; else links from each of its nodes to the next, and from the last to the first, are such a ring.
-    `further` has lines that this package does not know, each line's words behind its first word.
+    `further` has lines that this package does not know, each line's words after its first word.
     """
 
     kind: str
@@ -369,11 +388,11 @@ class Stats:
     dependencies: Optional[Tuple[Hashable, ...]] = None
     further: Dict[str, Tuple[str, ...]] = field(default_factory=dict)
 
-    def _repr_html_(self):
+    def _repr_html_(self) -> str:
         return shown.stats(self)
 
     @property
-    def stretch(self):
+    def stretch(self) -> Fraction | None:
         """The sum of the walks over the sum of the distances, exactly; None for a single node."""
         return Fraction(self.walks, self.distances) if self.distances else None
 
@@ -400,12 +419,12 @@ class Packet:
     segments: Tuple[Segment, ...]
 
     @property
-    def epoch(self):
+    def epoch(self) -> int:
         """The epoch of the first stamp."""
         return self.segments[0].epoch
 
     @property
-    def hops(self):
+    def hops(self) -> list[Any]:
         """All nodes on the packet's way, each segment's end and the next one's beginning once."""
         hops = list(self.segments[0].hops)
         for segment in self.segments[1:]:
@@ -434,13 +453,13 @@ class Run:
     refused: Tuple[Refused, ...]
     trace: str
 
-    def __repr__(self):
+    def __repr__(self) -> str:
         fates = Counter(packet.fate for packet in self.packets)
         said = ", ".join(f"{number:,} {fate}" for fate, number in fates.items()) or "none"
         said += f"; {counted(len(self.refused), 'step')} refused" if self.refused else ""
         return f"<Run of {counted(len(self.packets), 'packet')}: {said}>"
 
-    def _repr_html_(self):
+    def _repr_html_(self) -> str:
         return shown.run(self)
 
 
@@ -459,23 +478,23 @@ class Verdict:
     kind: Optional[str] = None
     sentence: Optional[str] = None
 
-    def __bool__(self):
+    def __bool__(self) -> bool:
         return self.ok
 
 
-def number(word, line):
+def number(word: str, line: int) -> int:
     """A whole number of decimal digits."""
     if not (word.isascii() and word.isdigit()):
         raise FormatError(f"{word!r} is no number", line)
     return int(word)
 
 
-def lines_of(text):
+def lines_of(text: str) -> list[tuple[int, list[str]]]:
     """The lines of an output, each as its number and its words."""
     return [(i + 1, line.split(" ")) for i, line in enumerate(text.splitlines())]
 
 
-def headed(text, head, count):
+def headed(text: str, head: str, count: int) -> tuple[list[str], list[tuple[int, list[str]]]]:
     """The words of the first line, which has to begin with `head` and to have so many, and the further lines."""
     lines = lines_of(text)
     if not lines or lines[0][1][0] != head or len(lines[0][1]) < count:
@@ -483,7 +502,7 @@ def headed(text, head, count):
     return lines[0][1], lines[1:]
 
 
-def count_of_row(row, line, names):
+def count_of_row(row: str, line: int, names: NodeNames) -> int:
     """The number of intervals of a row `START NEIGHBOUR ..`, of which each word is looked at."""
     words = row.split(" ")
     if len(words) % 2 != 0:
@@ -498,11 +517,36 @@ def count_of_row(row, line, names):
     return len(starts)
 
 
-def read_plan(text, names=SameNames):
-    """A plan, of the text that `route plan` prints; `names` leads names back to nodes (`names_of(graph)`)."""
+def read_plan(text: str, names: NodeNames = SAME) -> Plan:
+    """A plan, of the text that `route plan` prints.
+
+    Parameters
+    ----------
+    text : str
+        What was printed.
+    names : Names, optional
+        What leads names back to nodes, as `names_of(graph)`; each name is its own node by default.
+
+    Returns
+    -------
+    Plan
+
+    Raises
+    ------
+    FormatError
+        If the text is no plan; `line` is the number of the line.
+    UnknownNodeError
+        If a name is no node's.
+
+    Examples
+    --------
+    >>> read_plan("plan tree 2 2\\na 0 1 b\\nb 1 0 a\\n").path("a", "b")
+    ['a', 'b']
+    """
     lines = text.splitlines()
     first, _ = headed("".join(lines[:1]), "plan", 4)
-    nodes, count = {}, 0
+    nodes: dict[Any, NodePlan] = {}
+    count = 0
     for at, line in enumerate(lines[1:], 2):
         name, *label = line.split(" ", 2)
         if not label:
@@ -519,18 +563,39 @@ def read_plan(text, names=SameNames):
 PREFIX = re.compile("([0-9]+)/([0-9]+)")
 
 
-def read_prefix(word, to, bits, line, names):
-    """A prefix, of a word `VALUE/LENGTH` and the one behind it."""
+def read_prefix(word: str, to: str, bits: int, line: int, names: NodeNames) -> Prefix:
+    """A prefix, of a word `VALUE/LENGTH` and the one after it."""
     found = PREFIX.fullmatch(word)
     if not found:
         raise FormatError(f"{word!r} is no prefix", line)
-    return Prefix(int(found[1]), int(found[2]), bits, None if to == "-" else names.node(to))
+    return Prefix(int(found[1]), int(found[2]), bits, None if to == "#" else names.node(to))
 
 
-def read_prefixes(text, names=SameNames):
-    """Forwarding tables, of the text that `route prefixes` prints; `names` leads names back to nodes."""
+def read_prefixes(text: str, names: NodeNames = SAME) -> Prefixes:
+    """Forwarding tables, of the text that `route prefixes` prints.
+
+    Parameters
+    ----------
+    text, names
+        As for `read_plan`.
+
+    Returns
+    -------
+    Prefixes
+
+    Raises
+    ------
+    FormatError, UnknownNodeError
+        As `read_plan`.
+
+    Examples
+    --------
+    >>> read_prefixes("prefixes tree 2 1 2\\na 0 0/0 b\\nb 1 0/0 a\\n").nodes["a"].to(1)
+    'b'
+    """
     first, lines = headed(text, "prefixes", 5)
-    bits, nodes = number(first[3], 1), {}
+    bits = number(first[3], 1)
+    nodes: dict[Any, NodePrefixes] = {}
     for line, words in lines:
         if len(words) < 2 or len(words) % 2 != 0:
             raise FormatError("a prefix without a neighbour", line)
@@ -540,11 +605,35 @@ def read_prefixes(text, names=SameNames):
     tables = Prefixes(first[1], bits, nodes)
     if len(nodes) != number(first[2], 1) or tables.prefixes != number(first[4], 1):
         raise FormatError("not as many nodes and prefixes as it says", 1)
+    for line, of in enumerate(nodes.values(), 2):
+        unknown = next((it.to for it in of.prefixes if it.to is not None and it.to not in nodes), None)
+        if unknown is not None:
+            raise FormatError(f"the text has no node {unknown!r}; where there is no neighbour, `route` prints `#`", line)
     return tables
 
 
-def read_walk(text, names=SameNames):
-    """A walk, of the text that `route walk` prints."""
+def read_walk(text: str, names: NodeNames = SAME) -> Walk:
+    """A walk, of the text that `route walk` prints.
+
+    Parameters
+    ----------
+    text, names
+        As for `read_plan`.
+
+    Returns
+    -------
+    Walk
+
+    Raises
+    ------
+    FormatError, UnknownNodeError
+        As `read_plan`.
+
+    Examples
+    --------
+    >>> read_walk("walk tree a b 1 4\\na 0 1 1 b 4\\nb 1\\n")
+    <Walk tree: 'a' 'b', weight 4>
+    """
     first, lines = headed(text, "walk", 6)
     if not lines:
         raise FormatError("no node", 1)
@@ -561,8 +650,8 @@ def read_walk(text, names=SameNames):
     return Walk(first[1], source, target, number(first[4], 1), number(first[5], 1), tuple(steps))
 
 
-def read_dependencies(words, line, names):
-    """The ring of nodes that a line of dependencies tells, empty for `acyclic`."""
+def read_dependencies(words: list[str], line: int, names: NodeNames) -> tuple[Node, ...]:
+    """The ring of nodes in a line of dependencies, empty for `acyclic`."""
     if words == ["acyclic"]:
         return ()
     if words[:1] != ["cycle"]:
@@ -570,21 +659,22 @@ def read_dependencies(words, line, names):
     return tuple(map(names.node, words[1:]))
 
 
-# The figures that some outputs have: the number of words behind the first (None for any), and how they are read.
-FIGURES = {
+# The figures that some outputs have: the number of words after the first (None for any), and how they are read.
+FIGURES: dict[str, tuple[int | None, Callable[[list[str], int, NodeNames], Any]]] = {
     "greatest-row": (2, lambda words, line, names: (names.node(words[0]), number(words[1], line))),
-    "worst": (4, lambda words, line, names: Worst(*map(names.node, words[:2]), *(number(it, line) for it in words[2:]))),
-    "compactness": (3, lambda words, line, names: Compactness(*map(names.node, words[:2]), number(words[2], line))),
-    "bits": (2, lambda words, line, names: Bits(*(number(word, line) for word in words))),
+    "worst": (4, lambda words, line, names: Worst(names.node(words[0]), names.node(words[1]), number(words[2], line), number(words[3], line))),
+    "compactness": (3, lambda words, line, names: Compactness(names.node(words[0]), names.node(words[1]), number(words[2], line))),
+    "bits": (2, lambda words, line, names: Bits(number(words[0], line), number(words[1], line))),
     "dependencies": (None, read_dependencies),
 }
 NUMBERS = ("links", "starts", "entries", "walks", "distances")
 
 
-def read_figure(line, words, names):
+def read_figure(line: int, words: list[str], names: NodeNames) -> Any:
     """The value of a line of figures: a number, what `FIGURES` reads, or the words of a line that is not known."""
     name, *words = words
-    length, read = FIGURES.get(name, (1, None) if name in NUMBERS else (None, None))
+    unknown: tuple[int | None, None] = (1 if name in NUMBERS else None, None)
+    length, read = FIGURES.get(name, unknown)
     if length is not None and len(words) != length:
         raise FormatError(f"not {length + 1} words", line)
     if name in NUMBERS:
@@ -592,8 +682,28 @@ def read_figure(line, words, names):
     return read(words, line, names) if read else tuple(words)
 
 
-def read_stats(text, names=SameNames):
-    """The figures, of the text that `route stats` prints; `names` leads names back to nodes."""
+def read_stats(text: str, names: NodeNames = SAME) -> Stats:
+    """The figures, of the text that `route stats` prints.
+
+    Parameters
+    ----------
+    text, names
+        As for `read_plan`.
+
+    Returns
+    -------
+    Stats
+
+    Raises
+    ------
+    FormatError, UnknownNodeError
+        As `read_plan`.
+
+    Examples
+    --------
+    >>> read_stats("stats tree 2\\nlinks 1\\nstarts 2\\nentries 2\\ngreatest-row a 1\\nwalks 8\\ndistances 8\\n").stretch
+    Fraction(1, 1)
+    """
     first, lines = headed(text, "stats", 3)
     found = {words[0]: read_figure(line, words, names) for line, words in lines}
     for name in (*NUMBERS, "greatest-row"):
@@ -603,9 +713,9 @@ def read_stats(text, names=SameNames):
     return Stats(kind=first[1], nodes=number(first[2], 1), further=found, **known)
 
 
-def read_segments(words, line, names):
+def read_segments(words: list[str], line: int, names: NodeNames) -> tuple[Segment, ...]:
     """The segments of a row of version 2."""
-    segments = []
+    segments: list[tuple[int, list[Any]]] = []
     for word in words:
         if word.startswith("#"):
             segments.append((number(word[1:], line), []))
@@ -618,16 +728,16 @@ def read_segments(words, line, names):
     return tuple(Segment(epoch, tuple(hops)) for epoch, hops in segments)
 
 
-def read_row(version, line, words, names):
+def read_row(version: int, line: int, words: list[str], names: NodeNames) -> Packet:
     """A packet, of a row's words."""
     words = list(words)
     if len(words) < 6:
         raise FormatError("fewer than six words", line)
     row_number = number(words.pop(0), line)
-    epoch = number(words.pop(0), line) if version == 1 else None
+    epoch = number(words.pop(0), line) if version == 1 else 0  # version 2 has epochs in its segments
     source, target = names.node(words.pop(0)), names.node(words.pop(0))
     weight, fate = number(words.pop(0), line), words.pop(0)
-    link = None
+    link: tuple[Node, Node] | None = None
     if fate in ("down", "full") and len(words) > 2:
         link = names.node(words.pop(0)), names.node(words.pop(0))
     elif fate not in ("delivered", "retired", "left"):
@@ -635,14 +745,35 @@ def read_row(version, line, words, names):
     if not words:
         raise FormatError("no hop", line)
     if version == 1:
-        segments = (Segment(epoch, tuple(names.node(word) for word in words)),)
+        segments: tuple[Segment, ...] = (Segment(epoch, tuple(names.node(word) for word in words)),)
     else:
         segments = read_segments(words, line, names)
     return Packet(row_number, source, target, weight, fate, link, segments)
 
 
-def read_trace(text, names=SameNames):
-    """The version and the packets of a trace."""
+def read_trace(text: str, names: NodeNames = SAME) -> tuple[int, tuple[Packet, ...]]:
+    """The version and the packets of a trace.
+
+    Parameters
+    ----------
+    text, names
+        As for `read_plan`.
+
+    Returns
+    -------
+    tuple of int and tuple of Packet
+
+    Raises
+    ------
+    FormatError, UnknownNodeError
+        As `read_plan`.
+
+    Examples
+    --------
+    >>> version, packets = read_trace("trace 1\\n0 1 a c 2 delivered a b c\\n")
+    >>> packets[0].hops
+    ['a', 'b', 'c']
+    """
     first, lines = headed(text, "trace", 2)
     if first[1] not in ("1", "2"):
         raise FormatError("the versions are 1 and 2", 1)
@@ -650,8 +781,34 @@ def read_trace(text, names=SameNames):
     return version, tuple(read_row(version, line, words, names) for line, words in lines)
 
 
-def write_trace(packets, names=SameNames, version=None):
-    """The text of a trace with these packets: of version 1 where each has one segment, unless the version is given."""
+def write_trace(packets: Iterable[Packet], names: NodeNames = SAME, version: int | None = None) -> str:
+    """The text of a trace.
+
+    Parameters
+    ----------
+    packets : iterable of Packet
+        The rows.
+    names : Names, optional
+        What names the nodes, as `names_of(graph)`; each node is its own name by default.
+    version : int, optional
+        1 or 2; by default 1 if each packet has one segment.
+
+    Returns
+    -------
+    str
+
+    Raises
+    ------
+    FormatError
+        If version 1 is asked for and a packet has several segments.
+    UnknownNodeError
+        If a node has no name.
+
+    Examples
+    --------
+    >>> write_trace([Packet(0, "a", "b", 1, "delivered", None, (Segment(1, ("a", "b")),))])
+    'trace 1\\n0 1 a b 1 delivered a b\\n'
+    """
     packets = list(packets)
     if version is None:
         version = 2 if any(len(packet.segments) > 1 for packet in packets) else 1
@@ -659,18 +816,20 @@ def write_trace(packets, names=SameNames, version=None):
     for packet in packets:
         if version == 1 and len(packet.segments) != 1:
             raise FormatError("a row of version 1 has one segment")
-        ends = [names.name(packet.source), names.name(packet.target), packet.weight, packet.fate]
+        ends = [names.name(packet.source), names.name(packet.target), str(packet.weight), packet.fate]
         ends += [names.name(node) for node in packet.link or ()]
-        hops = []
+        hops: list[str] = []
         for segment in packet.segments:
             hops += [f"#{segment.epoch}"] if version == 2 else []
             hops += [names.name(node) for node in segment.hops]
-        front = [packet.number] + ([packet.epoch] if version == 1 else [])
-        lines.append(" ".join(map(str, front + ends + hops)))
+        front = [str(packet.number), str(packet.epoch)] if version == 1 else [str(packet.number)]
+        lines.append(" ".join(front + ends + hops))
     return "\n".join(lines) + "\n"
 
 
-def read_refused(text, steps=None, sentences=None):
+def read_refused(
+    text: str, steps: Sequence[Any] | None = None, sentences: Mapping[int, str] | None = None,
+) -> tuple[Refused, ...]:
     """The refused steps, of what stood on standard error beside a trace. `steps` are those of the script, one a line, and
     `sentences` has the sentence of a line, where there is one."""
     refused = []
@@ -682,7 +841,7 @@ def read_refused(text, steps=None, sentences=None):
     return tuple(refused)
 
 
-def read_verdict(text, sentence=None):
+def read_verdict(text: str, sentence: str | None = None) -> Verdict:
     """The verdict, of what `route check` prints; `sentence` is that of a finding."""
     words = text.split()
     if len(words) >= 2 and words[0] == "ok":

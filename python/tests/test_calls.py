@@ -301,7 +301,7 @@ class TablesTest(unittest.TestCase):
                 bentzolu.read_stats(f"stats tree 1\nlinks 0\nstarts 0\nentries 0\ngreatest-row a 0\nwalks 0\ndistances 0\n{bad}\n")
 
     def test_prefixes(self):
-        found = bentzolu.read_prefixes("prefixes tree 3 2 5\na 1 0/0 b\nb 0 2/1 c 0/0 a\nc 2 2/1 - 0/0 b\n")
+        found = bentzolu.read_prefixes("prefixes tree 3 2 5\na 1 0/0 b\nb 0 2/1 c 0/0 a\nc 2 2/1 # 0/0 b\n")
         self.assertEqual(repr(found), "<Prefixes tree of 3 nodes: 5 prefixes of at most 2 bits>")
         self.look_at_table(found, "2/1 → dropped 0/0 → b")
         self.assertEqual((found.path("a", "c"), found.labels), (["a", "b", "c"], {"a": 1, "b": 0, "c": 2}))
@@ -310,6 +310,10 @@ class TablesTest(unittest.TestCase):
         for bad in ("prefixes tree 1 0 1\na 0\n", "prefixes tree 1 0\n", "prefixes tree 1 1 1\na 0 0/0\n", "prefixes tree 1 1 1\na 0 0 b\n", "prefixes x 1 1 1\na 0 0/x b\n"):
             with self.subTest(bad), self.assertRaises(bentzolu.FormatError):
                 bentzolu.read_prefixes(bad)
+        with self.assertRaisesRegex(bentzolu.FormatError, "no node '-'"):
+            bentzolu.read_prefixes("prefixes tree 3 2 5\na 1 0/0 b\nb 0 2/1 c 0/0 a\nc 2 2/1 - 0/0 b\n")
+        dash = bentzolu.read_prefixes("prefixes tree 3 2 5\n- 1 0/0 b\nb 0 2/1 c 0/0 -\nc 2 2/1 # 0/0 b\n")
+        self.assertEqual((dash.path("c", "-"), dash.nodes["c"].to(3)), (["c", "b", "-"], None))
 
     def test_names(self):
         names = bentzolu.Names([0, (0, 1), "b"])

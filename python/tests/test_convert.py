@@ -226,6 +226,8 @@ class FormatsTest(unittest.TestCase):
             ]:
                 if name == "preferential" and format in ("adjlist", "edgelist", "multiline") or name == "one node" and format == "edgelist":
                     continue  # blanks in names, and a node without an edge, which such a list does not have
+                if format == "gml" and name in ("grid", "hypercube") and networkx.__version__.startswith("2."):
+                    continue  # tuples, which NetworkX writes from 3.0 on
                 with self.subTest((name, format)):
                     self.look_at_written(graph, format, "\n".join(write(graph)))
 

@@ -36,10 +36,29 @@ class ChoiceTest(unittest.TestCase):
         self.assertTrue(takes(["plan", "--explain", "--kind", "tree"], [("topology", "a b\n")]))
         self.assertTrue(takes(["plan", "--numbering", "tour"], [("topology", pathlib.Path("net.adjlist"))]))
         self.assertTrue(takes(["sim", "--numbering=depth-first"], []))
-        for words in (["live"], ["plan", "--help"], ["sim", "-V"], ["plan", "--numbering", "order"], ["plan", "--numbering=order"],
-                      ["plan", "--root=a\nb"], ["--version"]):
-            self.assertFalse(takes(words, []), words)
+        for words in (["live"], ["plan", "--help"], ["sim", "-V"], ["plan", "--numbering", "order", "-ntour"],
+                      ["plan", "--numbering", "-"], ["plan", "--root=a\nb"], ["--version"]):
+            self.assertFalse(takes(words, [("topology", "a b\n")]), words)
         self.assertFalse(takes(["plan"], [("topology", pathlib.Path("-"))]))
+
+    def test_an_order_of_nodes_in_a_file(self):
+        texts = [("topology", "a b\n")]
+        for words in (["plan", "--numbering", "order"], ["stats", "--numbering=order"], ["plan", "-n", "order"], ["plan", "-norder"]):
+            self.assertEqual(inside.order_of(words), "order")
+            self.assertTrue(inside.takes(words, texts), words)
+        self.assertFalse(inside.takes(["sim", "--numbering", "order"], [*texts, ("script", "drain\n")]))
+        self.assertIsNone(inside.order_of(["plan", "-n", "tour"]))
+
+    def test_an_order_is_the_text_after_the_topology(self):
+        given = []
+        library = types.SimpleNamespace(answer=lambda words, texts: given.append((words, texts)) or (0, b"", b""))
+        with tempfile.TemporaryDirectory() as folder, mock.patch.object(inside, "library", lambda: library):
+            file = pathlib.Path(folder, "order")
+            file.write_text("b\na\n")
+            words = ["plan", "--numbering", str(file)]
+            self.assertEqual(inside.answered(words, [("topology", "a b\n")], {}), (0, b"", b""))
+            self.assertIsNone(inside.answered(["plan", "-n", f"{file}.not"], [("topology", "a b\n")], {}))
+        self.assertEqual(given, [([*words, "--", "/bentzolu/topology"], [b"a b\n", b"b\na\n"])])
 
     def test_no_library(self):
         with mock.patch.dict(os.environ, {inside.VARIABLE: ""}):
@@ -154,6 +173,13 @@ class SameAnswersTest(unittest.TestCase):
         self.same(bentzolu.plan, path, "fastest")
         self.same(bentzolu.plan, path, words=("--numbering", "tour"))
         self.same(bentzolu.plan, path, "tree", words=("--numbering", "tour"))
+        with tempfile.TemporaryDirectory() as folder:
+            for order in ("2\n0\n1\n", "0\n1\n", "0\n0\n1\n", "0\n1\n3\n", ""):
+                file = pathlib.Path(folder, "order")
+                file.write_text(order)
+                for kind in ("compact", "tree"):
+                    self.same(bentzolu.plan, path, kind, words=("--numbering", str(file)))
+                self.same(bentzolu.stats, path, words=(f"--numbering={file}",))
         self.same(bentzolu.simulate, path, "inject 0 9\n")
         self.same(bentzolu.simulate, path, "inject 0\n")
         self.same(bentzolu.check, path, [], "trace 1\n0 0 1\n")

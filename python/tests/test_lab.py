@@ -3,10 +3,11 @@ import contextlib
 import io
 import unittest
 
-import common  # noqa: F401
+import common
 from bentzolu import __main__ as program
 from bentzolu import check_ranges, read_ranges
 from bentzolu.lab import is_connected, order_of
+from bentzolu.lab_check import Story, Way, findings, texts_of
 from bentzolu.lab_judge import Judge
 from bentzolu.lab_net import Network, links_of, without_link
 from bentzolu.texts import read_plan
@@ -91,6 +92,38 @@ class Verdicts(unittest.TestCase):
             self.assertEqual((found.over, found.lost, found.mixed), (0, 1, 0) if made == 0 else (1, 0, 0))
         self.assertEqual(judge([], [], down=("a", "b")).over, 1)
         self.assertEqual(judge([(0, 255, 0, 3, 2)], [], down=("a", "d")).lost, 1)
+
+
+STORY = Story("a b 2\nb c 1\nc d 1\nd a 1\n", "edgelist", ("--kind", "tree", "--root", "a"), (("install shortest a",),), (1,))
+WAYS = [Way(0, 1, ("a", "b", "c", "d"), "d", True), Way(2, 2, ("a", "d"), "d", True), Way(3, 1, ("a", "b"), "d", False)]
+
+
+class Checked(unittest.TestCase):
+    def test_texts(self):
+        script, trace = texts_of(STORY, WAYS, {("a", "b"): 2, ("b", "a"): 2})
+        self.assertEqual(script, "inject a d\ninstall shortest a\ninject a d\ninject a d\n")
+        self.assertEqual(trace.splitlines()[1:], ["0 1 a d 4 delivered a b c d", "1 2 a d 1 delivered a d", "2 1 a d 2 left a b"])
+        self.assertEqual(texts_of(STORY._replace(before=(9,)), WAYS[:1], {})[0], "inject a d\ninstall shortest a\n")
+        twice = STORY._replace(changes=(("install shortest a",), ("install tree a",)), before=(1, 3))
+        self.assertEqual(texts_of(twice, WAYS, {})[0], "inject a d\ninstall shortest a\ninject a d\ninstall tree a\ninject a d\n")
+
+    @common.needs_route
+    def test_findings(self):
+        self.assertEqual(findings(STORY, WAYS), {})
+        bad = [Way(4, 1, ("a", "d"), "d", True), Way(5, 2, ("a", "b"), "d", False), Way(6, 3, ("a", "d"), "d", True), Way(7, 1, ("a", "b"), "d", True)]
+        mixed = [way for pair in zip(bad, (it._replace(number=it.number + 100) for it in [*WAYS, WAYS[0]])) for way in pair]
+        found = {4: "NotAPrefix", 5: "NotAPrefix", 6: "UnknownEpoch", 7: "NotAtDestination"}
+        self.assertEqual(findings(STORY, sorted(mixed)), found)
+        early = findings(STORY._replace(before=(100,)), [Way(0, 2, ("a", "d"), "d", True)])
+        self.assertEqual(early, {0: "NotYetInstalled"})
+
+    @common.needs_route
+    def test_beside_the_rows(self):
+        story = STORY._replace(text="a b 1\nb c 1\nc d 1\nd a 1\n", before=(0,))
+        frames = [(0, 255, 0, 1, 1), (0, 254, 1, 2, 1), (0, 253, 2, 3, 1), (3, 255, 0, 3, 2), (2, 255, 1, 0, 1), (5, 255, 1, 0, 2), (5, 254, 0, 3, 2)]
+        said = [judge(frames, [(0, 3), (3, 3)], 6, story=it) for it in (None, story)]
+        self.assertEqual(said[0], said[1])
+        self.assertEqual((said[1].packets, said[1].mixed, said[1].lost), ({1: 1, 2: 1}, 2, 4))
 
 
 class Words(unittest.TestCase):

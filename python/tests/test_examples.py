@@ -1,0 +1,69 @@
+"""The examples in the docstrings, by the program; and that options given in any way are the same."""
+import doctest
+import importlib
+import pathlib
+import unittest
+
+from common import bentzolu, needs_route
+
+MODULES = ("calls", "graphs", "label_ranges", "names", "options", "texts")
+WITHOUT_PROGRAM = ("graphs", "label_ranges", "names", "texts")
+CALLS = (
+    "check", "check_ranges", "compile_many", "draw", "live", "names_of", "plan", "prefixes", "ranges", "read_plan", "read_prefixes",
+    "read_ranges", "read_stats", "read_trace", "read_walk", "scaled", "simulate", "stats", "walk", "write_trace",
+)
+EDGES = [("a", "b"), ("b", "c"), ("c", "d"), ("d", "a")]
+STEPS = [("inject", "a", "c"), ("install", "shortest", "a"), ("drain",)]
+
+
+class Examples(unittest.TestCase):
+    """Each example prints what stands below it."""
+
+    def tried(self, modules):
+        for name in modules:
+            found = doctest.testmod(importlib.import_module(f"bentzolu.{name}"))
+            with self.subTest(module=name):
+                self.assertGreater(found.attempted, 0, f"bentzolu.{name} has no example")
+                self.assertEqual(found.failed, 0)
+
+    def test_without_program(self):
+        self.tried(WITHOUT_PROGRAM)
+
+    @needs_route
+    def test_with_program(self):
+        self.tried(name for name in MODULES if name not in WITHOUT_PROGRAM)
+
+    def test_each_call_has_one(self):
+        for name in CALLS:
+            with self.subTest(call=name):
+                self.assertIn(">>> ", getattr(bentzolu, name).__doc__ or "")
+
+    def test_package_is_typed(self):
+        self.assertTrue(pathlib.Path(bentzolu.__file__).with_name("py.typed").exists())
+
+
+class OneValue(unittest.TestCase):
+    """Options as one value, by name and by place."""
+
+    @needs_route
+    def test_same_plan(self):
+        wanted = bentzolu.plan(EDGES, "tree", "b", weight=None)
+        self.assertEqual(bentzolu.plan(EDGES, options=bentzolu.Options(kind="tree", root="b", weight=None)), wanted)
+        self.assertEqual(bentzolu.plan(EDGES, kind="tree", root="b", options=bentzolu.Options(weight=None)), wanted)
+        self.assertEqual(bentzolu.plan(EDGES, "tree", options=bentzolu.Options(kind="compact", root="b")), wanted)
+        self.assertEqual(bentzolu.compile_many([EDGES, EDGES], options=bentzolu.Options("tree", "b")), [wanted, wanted])
+
+    @needs_route
+    def test_runs(self):
+        wanted = bentzolu.simulate(EDGES, STEPS, "tree", "a", 1, 2, 3)
+        self.assertEqual(wanted.version, 2)
+        given = bentzolu.Options(kind="tree", root="a", capacity=1, packets=2, restamps=3)
+        self.assertEqual(bentzolu.simulate(EDGES, STEPS, options=given), wanted)
+        self.assertTrue(bentzolu.check(EDGES, STEPS, wanted, options=bentzolu.Options("tree", "a")))
+
+    def test_unknown(self):
+        for call, more in ((bentzolu.plan, ()), (bentzolu.live, (STEPS,))):
+            with self.assertRaisesRegex(TypeError, "'numbers' is no option of this call; it takes kind, root, weight"):
+                call(EDGES, *more, numbers=1)
+        with self.assertRaisesRegex(TypeError, "'restamps' is no option"):
+            bentzolu.plan(EDGES, restamps=1)
