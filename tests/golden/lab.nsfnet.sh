@@ -77,6 +77,7 @@ address add fe80::fffe/64 dev bz0 nodad
 neigh add fe80::ffff lladdr 02:00:00:01:00:01 dev bz0 nud permanent
 route add fd00::/16 via fe80::ffff dev bz0
 END
+ip -n Seattle -6 rule add pref 10 iif bz1 blackhole
 ip netns exec Seattle sh -e <<'END'
 cd /proc/sys/net/ipv6
 echo 1 > conf/all/forwarding
@@ -136,6 +137,7 @@ address add fe80::fffe/64 dev bz0 nodad
 neigh add fe80::ffff lladdr 02:00:00:01:00:01 dev bz0 nud permanent
 route add fd00::/16 via fe80::ffff dev bz0
 END
+ip -n PaloAlto -6 rule add pref 10 iif bz1 blackhole
 ip netns exec PaloAlto sh -e <<'END'
 cd /proc/sys/net/ipv6
 echo 1 > conf/all/forwarding
@@ -195,6 +197,7 @@ address add fe80::fffe/64 dev bz0 nodad
 neigh add fe80::ffff lladdr 02:00:00:01:00:01 dev bz0 nud permanent
 route add fd00::/16 via fe80::ffff dev bz0
 END
+ip -n SanDiego -6 rule add pref 10 iif bz1 blackhole
 ip netns exec SanDiego sh -e <<'END'
 cd /proc/sys/net/ipv6
 echo 1 > conf/all/forwarding
@@ -254,6 +257,7 @@ address add fe80::fffe/64 dev bz0 nodad
 neigh add fe80::ffff lladdr 02:00:00:01:00:01 dev bz0 nud permanent
 route add fd00::/16 via fe80::ffff dev bz0
 END
+ip -n Champaign -6 rule add pref 10 iif bz1 blackhole
 ip netns exec Champaign sh -e <<'END'
 cd /proc/sys/net/ipv6
 echo 1 > conf/all/forwarding
@@ -313,6 +317,7 @@ address add fe80::fffe/64 dev bz0 nodad
 neigh add fe80::ffff lladdr 02:00:00:01:00:01 dev bz0 nud permanent
 route add fd00::/16 via fe80::ffff dev bz0
 END
+ip -n SaltLakeCity -6 rule add pref 10 iif bz1 blackhole
 ip netns exec SaltLakeCity sh -e <<'END'
 cd /proc/sys/net/ipv6
 echo 1 > conf/all/forwarding
@@ -376,6 +381,7 @@ address add fe80::fffe/64 dev bz0 nodad
 neigh add fe80::ffff lladdr 02:00:00:01:00:01 dev bz0 nud permanent
 route add fd00::/16 via fe80::ffff dev bz0
 END
+ip -n Houston -6 rule add pref 10 iif bz1 blackhole
 ip netns exec Houston sh -e <<'END'
 cd /proc/sys/net/ipv6
 echo 1 > conf/all/forwarding
@@ -439,6 +445,7 @@ address add fe80::fffe/64 dev bz0 nodad
 neigh add fe80::ffff lladdr 02:00:00:01:00:01 dev bz0 nud permanent
 route add fd00::/16 via fe80::ffff dev bz0
 END
+ip -n Boulder -6 rule add pref 10 iif bz1 blackhole
 ip netns exec Boulder sh -e <<'END'
 cd /proc/sys/net/ipv6
 echo 1 > conf/all/forwarding
@@ -498,6 +505,7 @@ address add fe80::fffe/64 dev bz0 nodad
 neigh add fe80::ffff lladdr 02:00:00:01:00:01 dev bz0 nud permanent
 route add fd00::/16 via fe80::ffff dev bz0
 END
+ip -n AnnArbor -6 rule add pref 10 iif bz1 blackhole
 ip netns exec AnnArbor sh -e <<'END'
 cd /proc/sys/net/ipv6
 echo 1 > conf/all/forwarding
@@ -553,6 +561,7 @@ address add fe80::fffe/64 dev bz0 nodad
 neigh add fe80::ffff lladdr 02:00:00:01:00:01 dev bz0 nud permanent
 route add fd00::/16 via fe80::ffff dev bz0
 END
+ip -n Lincoln -6 rule add pref 10 iif bz1 blackhole
 ip netns exec Lincoln sh -e <<'END'
 cd /proc/sys/net/ipv6
 echo 1 > conf/all/forwarding
@@ -604,6 +613,7 @@ address add fe80::fffe/64 dev bz0 nodad
 neigh add fe80::ffff lladdr 02:00:00:01:00:01 dev bz0 nud permanent
 route add fd00::/16 via fe80::ffff dev bz0
 END
+ip -n Atlanta -6 rule add pref 10 iif bz1 blackhole
 ip netns exec Atlanta sh -e <<'END'
 cd /proc/sys/net/ipv6
 echo 1 > conf/all/forwarding
@@ -659,6 +669,7 @@ address add fe80::fffe/64 dev bz0 nodad
 neigh add fe80::ffff lladdr 02:00:00:01:00:01 dev bz0 nud permanent
 route add fd00::/16 via fe80::ffff dev bz0
 END
+ip -n CollegePark -6 rule add pref 10 iif bz1 blackhole
 ip netns exec CollegePark sh -e <<'END'
 cd /proc/sys/net/ipv6
 echo 1 > conf/all/forwarding
@@ -722,6 +733,7 @@ address add fe80::fffe/64 dev bz0 nodad
 neigh add fe80::ffff lladdr 02:00:00:01:00:01 dev bz0 nud permanent
 route add fd00::/16 via fe80::ffff dev bz0
 END
+ip -n Pittsburgh -6 rule add pref 10 iif bz1 blackhole
 ip netns exec Pittsburgh sh -e <<'END'
 cd /proc/sys/net/ipv6
 echo 1 > conf/all/forwarding
@@ -785,6 +797,7 @@ address add fe80::fffe/64 dev bz0 nodad
 neigh add fe80::ffff lladdr 02:00:00:01:00:01 dev bz0 nud permanent
 route add fd00::/16 via fe80::ffff dev bz0
 END
+ip -n Ithaca -6 rule add pref 10 iif bz1 blackhole
 ip netns exec Ithaca sh -e <<'END'
 cd /proc/sys/net/ipv6
 echo 1 > conf/all/forwarding
@@ -844,6 +857,7 @@ address add fe80::fffe/64 dev bz0 nodad
 neigh add fe80::ffff lladdr 02:00:00:01:00:01 dev bz0 nud permanent
 route add fd00::/16 via fe80::ffff dev bz0
 END
+ip -n Princeton -6 rule add pref 10 iif bz1 blackhole
 ip netns exec Princeton sh -e <<'END'
 cd /proc/sys/net/ipv6
 echo 1 > conf/all/forwarding

@@ -1,0 +1,125 @@
+"""What `sim` and `live` print of scripts in which each packet is drained before anything else happens.
+
+Then a packet ends as the network stands: it goes by the plan of the epoch that it was stamped with, up to its destination
+or to a link that is down, and no step where that epoch is retired. `check` is to say `ok` of the trace, also with `--whole`.
+"""
+from oracle.rows import run
+from oracle.tables import drawn, plan_of, read_topology
+
+
+def put(folder, name, text):
+    """Write a file there, and return its name."""
+    with open(f"{folder}/{name}", "w", encoding="ascii") as file:
+        file.write(text)
+    return name
+
+
+def is_connected(nodes, links):
+    """Whether links lead from each node to each."""
+    seen, todo = {nodes[0]}, [nodes[0]]
+    while todo:
+        u = todo.pop()
+        for link in links:
+            for v in link - seen if u in link else ():
+                seen.add(v)
+                todo.append(v)
+    return len(seen) == len(nodes)
+
+
+class Network:
+    """A network and its board, as the script left them."""
+
+    def __init__(self, text, kind, root):
+        self.text, self.graph = text, read_topology(text, "edgelist")
+        self.nodes = list(self.graph)
+        self.links = sorted({frozenset((u, v)) for u in self.nodes for v in self.graph[u]}, key=sorted)
+        self.down, self.floor, self.learnt = set(), 1, 1
+        self.plans = [plan_of(text, "edgelist", kind, root)]
+
+    def without(self):
+        """The text of the topology over the links that are up."""
+        lines = [line for line in self.text.splitlines() if frozenset(line.split()[:2]) not in self.down]
+        return "\n".join(lines) + "\n"
+
+    def play(self, line):
+        """Why a change is refused, or None."""
+        word, *rest = line.split()
+        if word in ("down", "up"):
+            link = frozenset(rest)
+            if (link in self.down) == (word == "down"):
+                return "Same"
+            (self.down.add if word == "down" else self.down.discard)(link)
+        elif word == "install":
+            if not is_connected(self.nodes, [link for link in self.links if link not in self.down]):
+                return "Disconnected"
+            self.plans.append(plan_of(self.without(), "edgelist", *rest))
+        elif word == "retire":
+            if not 1 <= int(rest[0]) <= len(self.plans):
+                return "NoEpoch"
+            if int(rest[0]) <= self.floor:
+                return "Same"
+            self.floor = int(rest[0])
+        else:
+            if not 1 <= int(rest[0]) <= len(self.plans):
+                return "NoEpoch"
+            self.learnt = max(self.learnt, int(rest[0]))
+        return None
+
+    def row(self, number, source, dest):
+        """The row of a packet that is drained at once."""
+        _, _, labels, _, towards = self.plans[self.learnt - 1]
+        hops, weight, fate = [source], 0, "retired" if self.learnt < self.floor else "delivered"
+        while fate == "delivered" and hops[-1] != dest:
+            u, v = hops[-1], towards[hops[-1]][labels[dest]]
+            if frozenset((u, v)) in self.down:
+                fate = "down " + " ".join(sorted((u, v), key=self.nodes.index))
+            else:
+                hops.append(v)
+                weight += self.graph[u][v]
+        return f"{number} {self.learnt} {source} {dest} {weight} {fate} {' '.join(hops)}\n"
+
+
+def fault_of(luck, folder):
+    """What is wrong with a run of a script by chance, and with the check of its trace."""
+    _, text = drawn(luck, luck.randint(2, 12))
+    first = luck.choice(["tree", "shortest"])
+    net = Network(text, first, None)
+    is_live = luck.random() < 0.5  # then each install is learnt at once, as a live run does by itself
+    script, live, rows, refused = [], [], [], []
+
+    def step(line):
+        why = net.play(line)
+        script.append(line)
+        live.append(f"# {line}" if line.startswith("learn") else line)
+        if why:
+            refused.append(f"refused {len(script)} {why}\n")
+        return why
+
+    for number in range(luck.randint(1, 20)):
+        for _ in range(luck.randrange(4)):
+            what = luck.randrange(6)
+            if what < 3:
+                step(luck.choice(["down", "down", "up"]) + " " + " ".join(sorted(luck.choice(net.links))))
+            elif what == 3:
+                step(f"retire {luck.randrange(1, len(net.plans) + 2)}")
+            elif len(net.plans) < 60 and not step(f"install {luck.choice(['tree', 'shortest'])} {luck.choice(net.nodes)}"):
+                if is_live or luck.random() < 0.5:
+                    step(f"learn {len(net.plans)}")
+        source, dest = luck.choice(net.nodes), luck.choice(net.nodes)
+        script += [f"inject {source} {dest}", "drain"]
+        live += script[-2:]
+        rows.append(net.row(number, source, dest))
+    wanted = "trace 1\n" + "".join(rows), "".join(refused), 0
+    words = ["--kind", first, put(folder, "runs.edgelist", text)]
+    scripts = [("sim", script), *([("live", live)] if is_live else [])]
+    for sub, lines in scripts:
+        file = put(folder, "runs.script", "\n".join(lines) + "\n")
+        given = run([sub, *words, file], folder)
+        if given != wanted:
+            return f"{text}%%\n{chr(10).join(lines)}\n{sub}: {given} in place of {wanted}"
+        trace = put(folder, "runs.trace", wanted[0])
+        for more in [], ["--whole"]:
+            given = run(["check", *more, *words, file, trace], folder)
+            if given != (f"ok {len(rows)}\n", "", 0):
+                return f"{text}%%\n{chr(10).join(lines)}\ncheck {more} of {wanted[0]}: {given}"
+    return None

@@ -1,0 +1,1 @@
+"""What the tests share: checks that are counted, the built program and how it is driven, networks, plain plans."""

@@ -1,0 +1,65 @@
+"""Kind landmark: its words, what refuses them, and worked plans."""
+from __future__ import annotations
+
+from support.marks import built
+from support.route import expect, put, run
+
+pytestmark = [built]
+
+TRIANGLE = b"a b c\nb c\n"
+PATH = b"a b\nb c\nc d\nd e\ne f\nf g\n"
+
+
+def test_landmarks() -> None:
+    """Worked plans, each by its definition: a triangle by one landmark, a path by as many as there are nodes."""
+    words = ["plan", "--kind", "landmark"]
+    rows = b"plan landmark 3 4\na 0 1 b 2 c\nb 1 2 a\nc 2 0 a\n"
+    for more in ([], ["--stretch", "300"], ["--landmarks", "1"], ["--landmarks", "1", "--stretch", "300"], ["--root", "a"], ["-n", "depth-first"]):
+        expect(f"a triangle, {more}", run([*words, *more, "-"], TRIANGLE), rows, b"", 0)
+    walk = b"walk landmark b c 2 2\nb 1 2 2 a 1\na 0 2 1 c 1\nc 2\n"
+    expect("a walk by the landmark", run(["walk", "--kind", "landmark", "--from", "b", "--to", "c", "-"], TRIANGLE), walk, b"", 0)
+    for more in (["--stretch", "100"], ["--landmarks", "3"], ["--landmarks", "65535", "--stretch", "100"]):
+        got, faults, status = run(["walk", "--kind", "landmark", *more, "--from", "b", "--to", "c", "-"], TRIANGLE)
+        expect(f"the distance alone, {more}", (got.split(b"\n")[0], faults, status), b"walk landmark b c " + got.split()[4] + b" 1", b"", 0)
+    expect("one node", run([*words, "-"], b"a\n"), b"plan landmark 1 0\na 0\n", b"", 0)
+    expect("two nodes", run([*words, "-"], b"a b\n"), b"plan landmark 2 2\na 0 1 b\nb 1 0 a\n", b"", 0)
+    expect("no node", run([*words, "-"], b""), b"", b"opening Empty\n", 1)
+    expect("not connected", run([*words, "-"], b"a b\nc d\n"), b"", b"opening Disconnected\n", 1)
+
+
+def test_landmarks_told() -> None:
+    """The figures have the landmarks and the stretch behind the others, for this kind alone."""
+    for more, told in (([], b"landmarks c b\nstretch 300\n"), (["--landmarks", "1", "--stretch", "200"], b"landmarks c\nstretch 200\n"),
+                       (["--landmarks", "7"], b"landmarks c b d e f a g\nstretch 300\n")):
+        got = run(["stats", "--kind", "landmark", "--root", "c", *more, "-"], PATH)
+        expect(f"the figures of a path, {more}", (got[0][-len(told):], *got[1:]), told, b"", 0)
+    got = run(["stats", "--json", "--kind", "landmark", "--root", "c", "-"], PATH)
+    expect("as JSON", (got[0][got[0].find(b'"landmarks"'):], *got[1:]), b'"landmarks":{"nodes":["c","b"]},\n"stretch":300\n}\n', b"", 0)
+    for kind in ("tree", "shortest", "compact"):
+        got, faults, status = run(["stats", "--kind", kind, "--with", "landmark", "--stretch", "150", "-"], PATH)
+        expect(f"no landmarks of {kind}", (got[got.find(b"landmarks"):][:1], faults, status), b"\n", b"", 0)
+
+
+def test_landmarks_words() -> None:
+    """What refuses the words, by name."""
+    other = "'--landmarks' and '--stretch' take '--kind landmark' beside them"
+    order = "'--kind landmark' takes no '--numbering': its landmarks number the nodes"
+    for words, told in ((["--landmarks", "2"], other), (["--stretch", "200"], other), (["--kind", "tree", "--stretch", "300"], other),
+                        (["--kind", "landmark", "--numbering", "tour"], order), (["--kind", "landmark", "--numbering", "file"], order)):
+        said = f"error: {told}\n\nFor more information, try '--help'.\n".encode()
+        expect(f"refused: {words}", run(["plan", *words, "-"], TRIANGLE), b"", said, 2)
+    for option, word, least, most in (("--landmarks", "0", 1, 65_535), ("--landmarks", "65536", 1, 65_535), ("--stretch", "99", 100, 300), ("--stretch", "301", 100, 300)):
+        got = run(["plan", "--kind", "landmark", option, word, "-"], TRIANGLE)
+        wanted = f"{word} is not in {least}..={most}".encode()
+        expect(f"refused: {option} {word}", (got[0], wanted if wanted in got[1] else got[1], got[2]), b"", wanted, 2)
+
+
+def test_landmarks_installed() -> None:
+    """An install takes the landmarks and the stretch of the run, with each kind of its first plan."""
+    net, script = put("landmarks/net", PATH.decode()), put("landmarks/script", "inject a g\ninstall landmark d\nlearn 2\ninject g a\ndrain\n")
+    wanted = b"trace 1\n0 1 a g 6 delivered a b c d e f g\n1 2 g a 6 delivered g f e d c b a\n"
+    for words in ([], ["--kind", "landmark"], ["--landmarks", "2"], ["--kind", "tree", "--stretch", "150"], ["-n", "tour"]):
+        expect(f"a run, {words}", run(["sim", *words, net, script]), wanted, b"", 0)
+        trace = put("landmarks/trace", wanted.decode())
+        expect(f"its check, {words}", run(["check", "--whole", *words, net, script, trace]), b"ok 2\n", b"", 0)
+    expect("a kind that is none", run(["sim", "-"], PATH + b"%%\ninstall landmarks a\n"), b"", b"script 1 BadCommand\n", 1)
