@@ -8,7 +8,9 @@ Usage: ./install.sh PREFIX [--name NAME] [--uninstall]
 
 Installs the program that `(cd crates/route && rt run < stdin)` proved and built:
 
-  PREFIX/bin/NAME                                       the program
+  PREFIX/bin/NAME                                       a script that runs the program, and for `agent`,
+                                                        `controller` and `fleet` the Python package
+  PREFIX/libexec/bentzolu/NAME                          the program
   PREFIX/share/man/man1/NAME.1                          its manual page
   PREFIX/share/bash-completion/completions/NAME         completions for bash,
   PREFIX/share/zsh/site-functions/_NAME                 zsh
@@ -16,7 +18,7 @@ Installs the program that `(cd crates/route && rt run < stdin)` proved and built
 
   --name NAME   the name of the program, `bentzolu` by default; the Python package looks
                 for that. net-tools has another program `route`.
-  --uninstall   removes these five files again, if the manual page there is this program's
+  --uninstall   removes these six files again, if the manual page there is this program's
   --help        this text
 
 PREFIX is for instance /usr/local or ~/.local; folders that are missing are made.
@@ -28,7 +30,9 @@ refuse() {
     exit "$2"
 }
 
-prefix= name=bentzolu act=install
+prefix=''
+name=bentzolu
+act=install
 while [ $# -gt 0 ]; do
     case $1 in
         -h | --help)
@@ -53,6 +57,7 @@ case $name in
     '' | -* | *[!A-Za-z0-9_-]*) refuse "the name '$name' is not letters, digits, _ and -" 2 ;;
 esac
 
+inner=$prefix/libexec/bentzolu
 manual=$prefix/share/man/man1/$name.1
 bash=$prefix/share/bash-completion/completions/$name
 zsh=$prefix/share/zsh/site-functions/_$name
@@ -61,16 +66,18 @@ fish=$prefix/share/fish/vendor_completions.d/$name.fish
 if [ "$act" = uninstall ]; then
     grep -qs '^\.TH .* "Bentzolu[ "]' "$manual" ||
         refuse "nothing is removed: there is no manual page of this program at $manual" 1
-    for file in "$prefix/bin/$name" "$bash" "$zsh" "$fish" "$manual"; do
+    for file in "$prefix/bin/$name" "$inner/$name" "$bash" "$zsh" "$fish" "$manual"; do
         [ ! -e "$file" ] || { rm -f "$file" && echo "$file"; }
     done
+    rmdir "$inner" 2> /dev/null || :
     exit 0
 fi
 
 here=$(cd "$(dirname "$0")" && pwd)
 program=$here/crates/route/out/route
-[ -f "$program" ] && [ -x "$program" ] ||
+if [ ! -f "$program" ] || [ ! -x "$program" ]; then
     refuse "the program is not built: there is no crates/route/out/route. First run (cd crates/route && rt run < stdin)" 1
+fi
 
 # What the program calls itself by that name.
 case $name in
@@ -81,19 +88,43 @@ esac
 # Writes a file with the program's name in place of `route`, where that stands as a word: `renamed FROM TO`.
 renamed() {
     mkdir -p "$(dirname "$2")"
-    upper=$(printf %s "$name" | tr a-z A-Z)
+    upper=$(printf %s "$name" | tr '[:lower:]' '[:upper:]')
     sed -E -e "s/^\.TH ROUTE /.TH $upper /" -e "s/^route: /$own: /" \
         -e "s/(^|[ \"'(]|\\\\fB)route(\$|[ \"')]|\\\\)/\1$name\2/g" -e "s/(^|[ \"'(]|\\\\fB)route(\$|[ \"')]|\\\\)/\1$name\2/g" "$1" > "$2"
     chmod 644 "$2"
     echo "$2"
 }
 
-mkdir -p "$prefix/bin"
 # A program that runs may not be overwritten, so the new one is put beside it and takes its place.
-cp "$program" "$prefix/bin/.$name.new"
-chmod 755 "$prefix/bin/.$name.new"
-mv -f "$prefix/bin/.$name.new" "$prefix/bin/$name"
-echo "$prefix/bin/$name"
+mkdir -p "$prefix/bin" "$inner"
+cat > "$prefix/bin/.$name.new" << 'SCRIPT'
+#!/bin/sh
+# The program, which is in ../libexec/bentzolu; and, for routers on many machines, the Python package.
+here=${0%/*}
+name=${0##*/}
+if [ "$here" = "$0" ] || [ ! -x "$here/../libexec/bentzolu/$name" ]; then
+    path=$(readlink -f "$(command -v "$0")")
+    here=${path%/*}
+    name=${path##*/}
+fi
+case ${1:-} in
+    agent | controller | fleet)
+        for python in python3 /usr/bin/python3; do
+            if "$python" -c 'import importlib.util as it, sys; sys.exit(it.find_spec("bentzolu") is None)' 2> /dev/null; then
+                exec "$python" -m bentzolu "$@"
+            fi
+        done
+        echo "$name: '$1' wants the Python package, which is not installed here: run \`pip install ./python\` in the repository, or install the Debian package" >&2
+        exit 1 ;;
+esac
+exec "$here/../libexec/bentzolu/$name" "$@"
+SCRIPT
+cp "$program" "$inner/.$name.new"
+for file in "$prefix/bin" "$inner"; do
+    chmod 755 "$file/.$name.new"
+    mv -f "$file/.$name.new" "$file/$name"
+    echo "$file/$name"
+done
 renamed "$here/docs/route.1" "$manual"
 renamed "$here/completions/route.bash" "$bash"
 renamed "$here/completions/_route" "$zsh"

@@ -7,7 +7,7 @@ _bentzolu_subcommands() {
 
 # The options of a subcommand, or of the program where there is none.
 _bentzolu_options() {
-    local routed='-f --format -k --kind -r --root -n --numbering' told='-o --output --quiet --explain --no-explain --help'
+    local routed='-f --format -k --kind --landmarks --stretch -r --root -n --numbering' told='-o --output --quiet --explain --no-explain --help'
     case ${1-} in
         plan) echo "$routed --threads --order --json $told" ;;
         walk) echo "$routed --threads --from --to --json $told" ;;
@@ -26,7 +26,7 @@ _bentzolu_options() {
 _bentzolu_values() {
     case $1,${2-} in
         -f,* | --format,*) echo 'adjlist edgelist' ;;
-        -k,* | --kind,*) echo 'tree shortest compact' ;;
+        -k,* | --kind,*) echo 'tree shortest compact landmark' ;;
         -n,sim | -n,live | -n,check | --numbering,sim | --numbering,live | --numbering,check) echo 'depth-first tour' ;;
         --restamps,*) echo '0 1 2 3' ;;
     esac
@@ -71,7 +71,7 @@ _bentzolu() {
             compopt -o filenames 2> /dev/null
             COMPREPLY=($(compgen -f -- "$word")) ;;
         -r | --root | --from | --to | --node) mapfile -t COMPREPLY < <(_bentzolu_nodes "$word") ;;
-        --capacity | --packets | --threads | --with) ;;
+        --capacity | --landmarks | --packets | --stretch | --threads | --with) ;;
         *)
             if [ -z "$subcommand" ] && [[ $word != -* ]] || [ "$subcommand" = help ]; then
                 COMPREPLY=($(compgen -W "$(_bentzolu_subcommands)" -- "$word"))
