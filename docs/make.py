@@ -135,8 +135,9 @@ def believed():
     out += [wrapped("This page is for those who want to read the headline and not trust a word around it. A "
                     "contract that is proved says no more than its definitions do, so these are what must be read. "
                     "The page has each definition that the contract of `play` names, and each that those name, lowest "
-                    "first and as they stand in the sources. Names are followed page by page, so the list is complete; "
-                    "a few may be more than is needed. Beside it must be believed what `PROMISES.md` calls *trusted*."), ""]
+                    "first and as they are in the sources. Names are followed page by page; a few may be more than is "
+                    "needed. Not listed are the views of the code's types (`model` in their sources), and the words of "
+                    "traits that a caller gives. What [PROMISES](PROMISES.md) calls *trusted* must be believed too."), ""]
     out += [wrapped("`docs/make.py` makes this page and `tests/names` holds it to the sources. Lines above 100 columns "
                     "are broken. Names that no page here defines are of the kit: `rt lemma NAME` shows them."), ""]
     out += ["| The contract of | says | pages | definitions | lines | types |", "|---|---|---|---|---|---|"]
@@ -171,6 +172,7 @@ def believed():
             said = (", " if crate in IN_FEW_WORDS else "; ").join(names)
             out += [wrapped(f"**{link(page)}** of `{page.crate}`, {specs.lines_of(definitions)} lines: {said}.", "- ", "  ")]
         out += [""]
+    out += asked()
     return "\n".join(out).rstrip() + "\n"
 
 
@@ -178,6 +180,26 @@ def lowered(text):
     """A sentence within another one."""
     text = text.rstrip(".:")
     return text[0].lower() + text[1:] if re.match(r"[A-Z][a-z]* ", text) else text
+
+
+# What no contract can say: the calls by which the program asks the system for its words and its files.
+ASKED = [
+    ("words", "crates/route/src/main.rt", "the words of the command line"),
+    ("open", "crates/route/src/input.rt", "an input of a name"),
+    ("sink_of", "crates/route/src/output.rt", "what takes the bytes for a file of a name"),
+]
+
+
+def asked():
+    """The functions of the program whose bodies are to be believed."""
+    out = ["## What the program asks of the system", ""]
+    out += [wrapped("No contract can say which words and which files the system gives. What is read of a file or stream, and "
+                    "written to it, `read_origin` and `write_to` of `route` pass on as it was given, whatever file or stream it is. "
+                    "So these bodies are left to read:"), ""]
+    for name, path, what in ASKED:
+        body = re.search(rf"^(?:///[^\n]*\n)*(?:pub )?fn {name}\b.*?^}}", specs.text_of(path), flags=re.M | re.S)[0]
+        out += [f"`{name}` in [{os.path.basename(path)}](../{path}), {what}:", "", *code(body.split("\n")), ""]
+    return out
 
 
 # Definitions
