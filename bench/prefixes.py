@@ -15,7 +15,7 @@ import subprocess
 import sys
 
 DEFAULT = pathlib.Path(__file__).parent / "../crates/route/out/route"
-UNREACHABLE = "-"
+UNREACHABLE = "#"
 SEARCHED_BITS = 3
 
 

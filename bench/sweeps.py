@@ -1,0 +1,136 @@
+#!/usr/bin/env python3
+"""Times of sweeps: a failure's cost, processes, and dask beside processes by turns. It needs NumPy, and dask for the last.
+
+    sweeps.py cost [TURNS]       seconds of a processor a failure: of the program, and of Python with its figures
+    sweeps.py processes [TURNS]  all single failures of random 128/256 by 1, 2 and 4 processes, by turns
+    sweeps.py dask [TURNS]       tasks of 0.2 s by four processes and by four workers of dask, by turns
+    sweeps.py memory             the greatest resident set of a process that makes rows of 1,584 nodes
+
+Rows have medians. Seconds of a processor are those of all processes; under load they grow less than seconds by the clock.
+"""
+import concurrent.futures
+import itertools
+import pathlib
+import random
+import resource
+import statistics
+import subprocess
+import sys
+import time
+
+HERE = pathlib.Path(__file__).resolve().parent
+sys.dont_write_bytecode = True
+sys.path[:0] = [str(HERE.parent / "python"), str(HERE)]
+
+import bentzolu  # noqa: E402
+import networks  # noqa: E402
+
+EXAMPLES = HERE.parent / "examples"
+
+
+def made(family, *numbers):
+    random.seed(1)
+    return [link[:2] for link in networks.FAMILIES[family](*numbers)[1]]
+
+
+def processor():
+    """Seconds of a processor of this process, and of those that it waited for."""
+    own, others = resource.getrusage(resource.RUSAGE_SELF), resource.getrusage(resource.RUSAGE_CHILDREN)
+    return own.ru_utime + own.ru_stime, others.ru_utime + others.ru_stime
+
+
+def cost(turns):
+    nets = [("nsfnet 14/21", EXAMPLES / "nsfnet.edgelist", None), ("random 128/256", made("random", 128, 256), 40), ("random 256/1,024", made("random", 256, 1024), 10),
+            ("constellation 1,584", EXAMPLES / "constellation.adjlist", 4)]
+    for name, graph, count in nets:
+        rows = list(itertools.islice(links_of(graph), count))
+        for kind in ("shortest", "compact", "tree"):
+            own, others = [], []
+            for _ in range(turns):
+                few, many = once(graph, [], kind), once(graph, rows, kind)
+                own.append((many[0] - few[0]) / len(rows) * 1e3)
+                others.append((many[1] - few[1]) / len(rows) * 1e3)
+            print(f"{name}, {kind}: python {statistics.median(own):.1f} ms, program {statistics.median(others):.1f} ms", flush=True)
+
+
+def links_of(graph):
+    from bentzolu.network import network_of
+
+    net = network_of(graph)
+    return [(net.nodes[u], net.nodes[v]) for u, v, _ in net.links]
+
+
+def once(graph, failures, kind):
+    before = processor()
+    bentzolu.sweep(graph, failures, kind)
+    after = processor()
+    return after[0] - before[0], after[1] - before[1]
+
+
+def processes(turns):
+    graph, found = made("random", 128, 256), {}
+    for _ in range(turns):
+        for jobs in (1, 2, 4):
+            before, began = processor(), time.perf_counter()
+            with concurrent.futures.ProcessPoolExecutor(jobs) as pool:
+                rows = bentzolu.sweep(graph, executor=pool)
+            found.setdefault(jobs, []).append((time.perf_counter() - began, sum(processor()) - sum(before)))
+            assert len(rows) == 256 and not rows.faults
+    for jobs, times in found.items():
+        clock, used = (statistics.median(it) for it in zip(*times))
+        print(f"{jobs} processes: {clock:.2f} s, least {min(it[0] for it in times):.2f} s; {used:.2f} s of a processor", flush=True)
+
+
+def spin(task, part):
+    """0.2 s of a processor."""
+    end = time.process_time() + 0.2
+    while time.process_time() < end:
+        pass
+    return len(part)
+
+
+def dask(turns):
+    import distributed
+    from bentzolu.spreading import spread
+
+    scheduler = subprocess.Popen([sys.executable, "-m", "distributed.cli.dask_scheduler", "--host", "127.0.0.1", "--port", "18786", "--no-dashboard"], stderr=subprocess.DEVNULL)
+    command = [sys.executable, "-m", "distributed.cli.dask_worker", "tcp://127.0.0.1:18786", "--no-nanny", "--nthreads", "1", "--no-dashboard"]
+    environment = {"PYTHONPATH": ":".join(sys.path), "PATH": "/usr/bin:/bin"}
+    workers = [subprocess.Popen(command, stderr=subprocess.DEVNULL, env=environment) for _ in range(4)]
+    graph, found = made("random", 128, 256), {"processes": [], "dask": []}
+    try:
+        with distributed.Client("tcp://127.0.0.1:18786", timeout=120) as client, concurrent.futures.ProcessPoolExecutor(4) as pool:
+            client.wait_for_workers(4, timeout=120)
+            engines = {"processes": pool, "dask": client.get_executor(retries=3)}
+            for turn in range(turns + 1):
+                for name, engine in engines.items():
+                    began = time.perf_counter()
+                    spread(engine, spin, graph, [[i] for i in range(40)], lambda part, it: None, 3)
+                    if turn:
+                        found[name].append(time.perf_counter() - began)
+    finally:
+        for process in [*workers, scheduler]:
+            process.kill()
+            process.wait()
+    for name, times in found.items():
+        print(f"{name}: 40 tasks of 0.2 s by four: {statistics.median(times):.2f} s ({min(times):.2f} to {max(times):.2f})", flush=True)
+    print(f"dask has {statistics.median(a / b for a, b in zip(found['processes'], found['dask'])):.2f} of the speed of processes")
+
+
+def memory():
+    for kind in ("shortest", "compact", "tree"):
+        code = (
+            f"import sys, resource; sys.path[:0] = {sys.path[:2]!r}; import bentzolu; "
+            f"bentzolu.sweep({str(EXAMPLES / 'constellation.adjlist')!r}, [('0_0', '0_1'), ('5_5', '6_5'), '9_9'], {kind!r}); "
+            "print(resource.getrusage(resource.RUSAGE_SELF).ru_maxrss // 1024)"
+        )
+        print(f"{kind}: {subprocess.run([sys.executable, '-c', code], capture_output=True, text=True, check=True).stdout.strip()} MB", flush=True)
+
+
+def main():
+    what, turns = sys.argv[1], int(sys.argv[2]) if len(sys.argv) > 2 else 3
+    {"cost": cost, "processes": processes, "dask": dask, "memory": lambda _: memory()}[what](turns)
+
+
+if __name__ == "__main__":
+    main()
