@@ -1,0 +1,5 @@
+pub mod Places
+pub mod Members
+pub mod Cuts
+pub mod Laws
+pub mod Ascents

@@ -1,0 +1,4 @@
+-- what contracts promise
+pub mod Changes
+-- what bodies use
+pub mod Cuts
