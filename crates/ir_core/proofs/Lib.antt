@@ -1,6 +1,7 @@
 pub mod Lists
 pub mod MarkWords
 pub mod Walks
+pub mod Lacking
 pub mod Channels
 pub mod Verdicts
 pub mod Placed

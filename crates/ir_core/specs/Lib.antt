@@ -13,6 +13,7 @@ pub mod History
 pub mod Meaning
 pub mod Plain
 pub mod Sound
+pub mod Lacking
 pub mod World
 pub mod Shows
 pub mod Drain

@@ -1,4 +1,4 @@
-ghost use Rattle.std.specs.Prelude.{◌≡◌, ◌≢◌, ℕ, List, Result, None};
+ghost use Rattle.std.specs.Prelude.{◌≡◌, ◌≢◌, ℕ, List, Option, Result, None};
 ghost use Rattle.ir_core.specs.{declared.event.Way.Way, Record.Record, Setting.Setting};
 ghost use Rattle.ir_core.specs.{declared.event.Action.TheVariants.Restamp, declared.event.Verdict.Verdict};
 ghost use Rattle.ir_core.specs.{declared.board.Board.Board, Entry.{Entry, ruled, acted, decided}, Meaning.Sight};
@@ -6,8 +6,11 @@ ghost use Rattle.ir_core.specs.{Plain.{IsPlainVerdict, IsPlainAct}, declared.ope
 ghost use Rattle.ir_core.specs.{declared.built.Install.Install, declared.event.Refused.Refused};
 ghost use Rattle.ir_core.specs.{declared.event.Reply.Reply, declared.event.Step.Step, World.World};
 ghost use Rattle.ir_core.specs.Installed.{AreEpochsOf};
+ghost use Rattle.ir_core.specs.Lacking.{IsFrontOfTheWalk, IsSentOver, IsWayOver, LackNone};
+ghost use Rattle.ir_core.specs.{declared.packet.Fate.TheVariants.Left, Sound.IsSound};
 ghost use Rattle.ir_core.specs.Meaning.{AreBothMade};
-ghost use Rattle.ir_model.specs.{Plan.Plan, Topology.{Topology, node_count}};
+ghost use Rattle.ir_model.specs.{Plan.{Plan, table_port}, Table.IsPrescribedWalk, Topology.{Topology, node_count}};
+ghost use Rattle.ir_model.specs.Row.{Start};
 ghost use Rattle.ir_model.specs.declared.Kind.{Kind, TheVariants.Tree};
 ghost use Rattle.ir_plan.specs.{declared.tour.LabelOrder.LabelOrder, Starts.HaveSameTable};
 
@@ -44,4 +47,22 @@ pub fn made_plan_is_determined()
         → AreBothMade labels kind root topology p q → HaveSameTable (node_count topology) p q }
     ensures rows { (labels : LabelOrder) (kind : Kind) (root : ℕ) (topology : Topology) (p q : Plan) → kind ≢ Tree
         → AreBothMade labels kind root topology p q → p.rows ≡ q.rows }
+{}
+
+/// A law of nodes that may lack their row of a packet's epoch, as routers on many machines do: each
+/// has the whole row of the epoch's plan or none, whenever the packet comes. The packet has a way. It
+/// is a prefix of the walk that the plan's full table prescribes, and it is all of it or ended at a
+/// node that lacked its row. Where none does it is all of the walk. The record of such a packet is
+/// sound as one that is left.
+pub fn ways_over_lacking_rows()
+    ensures exists { (plan : Plan) (found : ℕ → ℕ → Option (List Start)) (u d : ℕ) → IsSentOver plan found u d
+        → (way : List ℕ) × IsWayOver plan found u d way }
+    ensures front { (plan : Plan) (found : ℕ → ℕ → Option (List Start)) (u d : ℕ) → IsSentOver plan found u d
+        → (way : List ℕ) → IsWayOver plan found u d way → IsFrontOfTheWalk plan found u d way }
+    ensures all { (plan : Plan) (found : ℕ → ℕ → Option (List Start)) (u d : ℕ) → IsSentOver plan found u d
+        → LackNone plan found → (way : List ℕ) → IsWayOver plan found u d way
+        → IsPrescribedWalk plan.topology (table_port plan) u d way }
+    ensures sound { (plan : Plan) (found : ℕ → ℕ → Option (List Start)) (r : Record)
+        → IsSentOver plan found r.source r.dest → r.fate ≡ Left → IsWayOver plan found r.source r.dest r.hops
+        → IsSound plan r }
 {}

@@ -25,7 +25,9 @@ pub use built::{Install, installs, installs_by, installs_with_plans_by};
 pub use command::Command;
 pub use event::{Action, Event, OpenError, Refused, Reply, Ruling, Step, Verdict, Way};
 pub use ir_model::{Hop, Kind};
-pub use laws::{epochs_of_installs, made_plan_is_determined, without_restamps};
+pub use laws::{
+    epochs_of_installs, made_plan_is_determined, ways_over_lacking_rows, without_restamps,
+};
 pub use opening::{Opening, open_refusal};
 pub use packet::{Fate, Held, Record, Restamp, hop_room};
 pub use planning::{Draft, plan_over_by, plan_up_by};

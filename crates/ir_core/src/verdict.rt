@@ -32,13 +32,13 @@ pub fn judge(plan: &Plan, board: &Board, way: Way, at: u16, stamp: u32, address:
     }
 }
 
-/// What a node does with a packet that it took from its inbox (`None`) or by a link, given the plan of the packet's
-/// stamp and the board of the node's view: the first of the link that it came by being down, its epoch being retired,
-/// its own label being the address, the link that it is to leave by being down, and the port to send it over. A packet
-/// of a retired epoch is restamped, where `left` restamps, above 0, are still allowed: the caller then records the node
-/// as a hop, if the packet came by a link, takes the board's current epoch and the destination's label in it, and
-/// decides again over the same board. Whether the channel of the port has room is not asked. `at` is a node and
-/// `address` a label of the plan. Takes O(log k), for k starts of the row. For users of the library.
+/// Decides what a node does with a packet that it took from its inbox (`None`) or by a link. It is given the plan of
+/// the packet's stamp and the board of the node's view. The first of these holds: the packet came by a link that is
+/// down; its epoch is retired; it has arrived, by its address; its next link is down; else it is sent over a port.
+/// A packet of a retired epoch is restamped while `left` is above 0. The caller then records the node as a hop, if the
+/// packet came by a link, and takes the board's current epoch and the destination's label in it. It decides again over
+/// the same board. Whether the channel of the port has room is not asked. `at` is a node and `address` a label of the
+/// plan. Takes O(log k), for k starts of the row. For users of the library.
 pub fn decide(
     plan: &Plan,
     board: &Board,
