@@ -69,7 +69,8 @@ impl LandmarkBounds {
 }
 
 /// The nodes of a connected network by label in a landmark plan: the blocks of the landmarks that a root and a detour
-/// choose, the root first. It is refused for memory alone. Takes as long as `most_linked`, `Owners::of` and `block_order`.
+/// choose, the root first. It is refused for memory alone. Takes as long as `most_linked`, `Owners::of` and
+/// `block_order`.
 pub fn block_labels(
     alloc: Global,
     topology: &Topology,

@@ -11,8 +11,8 @@ use ir_numbering::search_lists;
 use ir_tables::Topology;
 use std::alloc::{AllocError, Global};
 
-/// The nodes of a connected network by label in a landmark plan: those of each landmark in turn, depth first in the tree of
-/// its block. It is refused for memory alone. Takes O(n + m), for n nodes and m links.
+/// The nodes of a connected network by label in a landmark plan: those of each landmark in turn, depth first in the
+/// tree of its block. It is refused for memory alone. Takes O(n + m), for n nodes and m links.
 pub fn block_order(
     alloc: Global,
     topology: &Topology,
@@ -35,8 +35,8 @@ pub fn block_order(
     Ok(order.nodes)
 }
 
-/// The landmarks of a plan: its root, and behind it the nodes of most links, of as many the least number first; at most so
-/// many. It is refused for memory alone. Takes O(k n), for k landmarks and n nodes.
+/// The landmarks of a plan: its root, and behind it the nodes of most links, of as many the least number first; at
+/// most so many. It is refused for memory alone. Takes O(k n), for k landmarks and n nodes.
 pub fn most_linked(
     alloc: Global,
     topology: &Topology,
@@ -65,7 +65,8 @@ pub fn most_linked(
     Ok(landmarks)
 }
 
-// The node without a mark that has the most ports, of as many the one with the least number; none where each has a mark.
+// The node without a mark that has the most ports, of as many the one with the least number; none where each has a
+// mark.
 fn next_linked(topology: &Topology, marks: &[bool]) -> Option<u16>
     requires { length marks.now ≡ node_count topology.now }
     ensures none { result ≡ None → (v : ℕ) → v < node_count topology.now → slice_index_or marks.now v false ≡ true }
@@ -90,7 +91,8 @@ fn is_more_linked(topology: &Topology, v: u16, best: Option<u16>) -> bool
     requires node { v < node_count topology.now }
     requires best { IfSome best (λ x. x < node_count topology.now) }
     ensures none { best ≡ None → IsTrue result }
-    ensures some { IfSome best (λ x. IsTrue result ↔ (length (ports_of topology.now x) < length (ports_of topology.now v))) }
+    ensures some { IfSome best (λ x. IsTrue result
+        ↔ (length (ports_of topology.now x) < length (ports_of topology.now v))) }
 {
     match best {
         None => true,

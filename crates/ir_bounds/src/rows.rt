@@ -14,8 +14,8 @@ use ir_numbering::Numbering;
 use ir_tables::Topology;
 use std::alloc::{AllocError, Global};
 
-/// The row of a node with the fewest intervals over all ports that lead within bounds. Condition: to each other node some
-/// port does. It is refused for memory alone. Takes O(d n), for d ports of the node and n nodes, and what
+/// The row of a node with the fewest intervals over all ports that lead within bounds. Condition: to each other node
+/// some port does. It is refused for memory alone. Takes O(d n), for d ports of the node and n nodes, and what
 /// `ir_compile::row_of_longest` takes.
 pub fn row_within(
     alloc: Global,

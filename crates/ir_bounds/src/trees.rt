@@ -88,8 +88,8 @@ fn least(best: Option<u16>, x: u16) -> u16
     }
 }
 
-/// The nodes that may follow each one in depth-first order, by the parents of all. It is refused for memory alone. Takes
-/// O(n + m), for n nodes and m links.
+/// The nodes that may follow each one in depth-first order, by the parents of all. It is refused for memory alone.
+/// Takes O(n + m), for n nodes and m links.
 pub fn follower_lists(
     alloc: Global,
     topology: &Topology,

@@ -192,7 +192,7 @@ impl Net {
         Net::wired(alloc, registry, first, opening).map_err(|_| OpenError::NoMemory)
     }
 
-    // With its channels.
+    // The net over a registered first plan, with its channels.
     fn wired(
         alloc: Global,
         registry: Registry,

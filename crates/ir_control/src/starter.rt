@@ -8,11 +8,11 @@ use ir_worker::Node;
 use std::sync::atomic::{AtomicBool, Ordering};
 use std::thread::{SpawnError, Threads};
 
-/// Says of each node whether its thread is to be started, and is shown the injector once the
-/// commands are carried out and each node that came back; and it sets the flag of a run. It has a
-/// word for a thread that was not started, for an injector and for a node that was shown, and for a
-/// flag that was set: so a contract can say that a thread was not started, of which injector and
-/// nodes a run tells, and why its nodes ended.
+/// Says of each node whether its thread is to be started, and sets the flag of a run. It is shown the
+/// injector once the commands are carried out, and each node that came back. Its ghost words record a
+/// thread that was not started, an injector or a node that was shown, and a flag that was set. So a
+/// contract can say that a thread was not started, of which injector and nodes a run reports, and why
+/// its nodes ended.
 pub trait Starter {
     // the thread of the node of this number was not started
     ghost unstarted: { Self → ℕ → Type 0 };

@@ -19,8 +19,8 @@ pub fn tree_plans_have_no_ring()
     ensures { (plan : Plan) → IsPlan plan → plan.kind ≡ Tree → IsWithoutRing (Waits plan) }
 {}
 
-/// A plan has one row of a comparison for each word of an order, and a network one comparison of its plans from a root and of
-/// these detours.
+/// A plan has one row of a comparison for each word of an order, and a network one comparison of its plans from a
+/// root and of these detours.
 pub fn comparison_is_determined()
     ensures row { (order : LabelOrder) (plan : Plan) (line other : List ℕ) → IsRowOf order plan line
         → IsRowOf order plan other → line ≡ other }

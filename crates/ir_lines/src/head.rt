@@ -13,8 +13,8 @@ pub enum HeadVerdict {
     NoLabel,
 }
 
-/// The verdict of a table's first line on a packet with an epoch and a label: first by the epoch, then by the own label,
-/// then by the number of labels.
+/// The verdict of a table's first line on a packet with an epoch and a label: first by the epoch, then by the own
+/// label, then by the number of labels.
 #[inline(always)]
 pub fn head_verdict(line: &[u32], epoch: u32, label: u32) -> HeadVerdict
     requires { 16 ≤ length line.now }

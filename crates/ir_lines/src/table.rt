@@ -48,8 +48,8 @@ fn takes_bytes(row: &Row, labels: u16, count: usize, greatest: u16) -> bool
 }
 
 /// The table of a row, in words, 32 to a line: the tree of its words, or the bytes of its ports where these take fewer
-/// lines. Condition: there are at most 16,384 labels, and the row's starts are among them. It is refused for memory alone.
-/// Takes O(k), for k starts, and O(n log k) for n labels where it is of bytes.
+/// lines. Condition: there are at most 16,384 labels, and the row's starts are among them. It is refused for memory
+/// alone. Takes O(k), for k starts, and O(n log k) for n labels where it is of bytes.
 pub fn lines(alloc: Global, owner: Owner, row: &Row) -> Result<Vec<u32>, AllocError>
     requires few { owner.labels ≤ 16384 }
     requires starts { (k : ℕ) → k < length row.now → slice_index (labels row.now) k < owner.labels }

@@ -1,6 +1,6 @@
 //! What is made for each number below one, on the thread that calls or in several.
 
-ghost use Rattle.std.specs.Prelude.{ℕ, ◌<◌, IfOk, Ok, map};
+ghost use Rattle.std.specs.Prelude.{ℕ, ◌<◌, ◌≤◌, ◌*◌, IfOk, IfSome, Ok, map};
 ghost use Rattle.std.specs.List.{AllZip, range_with_len};
 
 use rayon::prelude::*;
@@ -44,7 +44,10 @@ pub fn made_in_threads<T: Send + Drop, F: Fn(usize) -> Result<T, AllocError> + C
 }
 
 // The fewest that a thread makes, where there are to be at most so many threads: then as many make all.
-fn least_of_a_thread(count: usize, most: Option<usize>, least: usize) -> usize {
+fn least_of_a_thread(count: usize, most: Option<usize>, least: usize) -> usize
+    ensures few { IfSome most (λ threads. 0 < threads → count ≤ result * threads) }
+    ensures enough { least ≤ result }
+{
     match most {
         Some(threads) if threads > 0 => count.div_ceil(threads).max(least),
         _ => least,

@@ -29,7 +29,7 @@ impl Patience {
         left == 0
     }
 
-    /// Learns whether a batch found anything: behind those that did not one by one, the next 1, 2, 4 .. go without.
+    /// Learns whether a batch found anything. After k batches in a row that did not, the next 2^(k-1) are not tried.
     pub fn learns(&self, has_found: bool) {
         if has_found {
             self.next.store(1, Ordering::SeqCst);

@@ -178,7 +178,8 @@ pub fn parse_script(
     ensures parsed { IfOk result (λ s. listing_of detour (names graph.now) topology.now (lines text.now)
         ≡ Ok (record { steps = s.steps.items; lines = s.lines.items })) }
     ensures within { IfOk result (λ s. list_all (is_step_within topology.now) s.steps.items ≡ true) }
-    ensures fault { IfErr result (λ e. ScriptTold e (listing_of detour (names graph.now) topology.now (lines text.now))) }
+    ensures fault { IfErr result (λ e. ScriptTold e
+        (listing_of detour (names graph.now) topology.now (lines text.now))) }
 {
     topology.invariant();
     parse(alloc, text, graph, topology, detour)

@@ -122,8 +122,8 @@ fn stops_between(
 
 /// The text of the walk between two nodes, from the first end to the second, in the plan of a kind over a topology by
 /// these labels. That plan is not built: its rows are made for the nodes of the walk alone, each by a search from its
-/// node. Conditions: the kind is one of shortest ways, the topology is the graph's network, the ends are nodes of it if it has any,
-/// and no tour is sought (`needs_no_tour`).
+/// node. Conditions: the kind is one of shortest ways, the topology is the graph's network, the ends are nodes of it
+/// if it has any, and no tour is sought (`needs_no_tour`).
 ///
 /// Refused as the plan is (`Plan::build_by`). Takes O(w (n + m) log n), for w nodes of the walk, n nodes of the network
 /// and m links, and of kind Compact for each node of the walk what `ir_compile::ports_of_runs` takes and O(n + m) for

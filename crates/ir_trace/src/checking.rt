@@ -67,15 +67,18 @@ fn found_of(topology: &Topology, plans: &[Plan], row: &TraceRow) -> Option<Findi
     None
 }
 
-/// The first finding of a trace: the first line with one, and in it the first of these. `UnknownEpoch`
-/// where no install made the epoch of a segment; `NotAPrefix` where the segments are not joined end to
-/// end from the source on over rising epochs, or one is not a prefix of the walk to the destination
-/// that the full table of its own epoch prescribes from its first hop, or the last one's walk doesn't
-/// go on along the link that was down, or to the node whose channel was full; `NotAtDestination` where
-/// a packet is delivered and its last segment is not the whole walk; `BadWeight` where the weight is
-/// not that of the hops; `Repeated` where an earlier line has the id. Where there is none, each segment
-/// of each row is a sound record of its epoch. The install of epoch e stands at place e - 1. The rows
-/// of the plans are made by a crew.
+/// The first finding of a trace: the first line with one, and in it the first of this list. Where there
+/// is none, each segment of each row is a sound record of its epoch.
+///
+/// - `UnknownEpoch`: no install made the epoch of a segment.
+/// - `NotAPrefix`: the segments are not joined end to end from the source on over rising epochs. Or one
+///   is not a prefix of the walk that its own epoch's full table prescribes from its first hop. Or the
+///   last one's walk does not continue along the link that was down, or to the node whose channel was full.
+/// - `NotAtDestination`: a packet is delivered, and its last segment is not the whole walk.
+/// - `BadWeight`: the weight is not that of the hops.
+/// - `Repeated`: an earlier line has the id.
+///
+/// The install of epoch e is at place e - 1. The rows of the plans are made by a crew.
 /// Condition: the trace was read over the topology's graph; each install has a mark for each link, a
 /// root that is a node, and joins all nodes. Takes as long as `judging::plans_by`, O(log k + d) for each
 /// hop and O(log r) for each of r rows, for at most k starts and d ports of a node.

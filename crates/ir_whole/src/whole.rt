@@ -52,14 +52,18 @@ fn finding_at(place: usize, kind: WholeKind) -> WholeFinding
 }
 
 /// The first row of a trace that no run of a script can have had: the first line with a finding, and in
-/// it the first of these. `NeverInjected` where no choice of the script's injects, of at most so many
-/// packets, gives it and each row before it the number of its packet; `NotYetInstalled` where none does
-/// that also has each row's first epoch among those that install lines above its inject can have made;
-/// `NeverDown` where it was dropped at a link that no line takes down; `NeverRetired` where its last
-/// epoch is retired by no line; `NeverFull` where it was dropped at a full channel, and fewer rows than
-/// the capacity went over it, or ended before it and were not delivered.
-/// Of the lines that a run refused nothing is known: each install line may have made an epoch, and each
-/// line that takes a link down or retires epochs may have done so.
+/// it the first of this list. Of the lines that a run refused nothing is known: each install line may
+/// have made an epoch, and each line that takes a link down or retires epochs may have done so.
+///
+/// - `NeverInjected`: no choice of the script's injects, of at most so many packets, gives it and each
+///   row before it the number of its packet.
+/// - `NotYetInstalled`: no such choice also has each row's first epoch among those that install lines
+///   above its inject can have made.
+/// - `NeverDown`: it was dropped at a link that no line takes down.
+/// - `NeverRetired`: it was dropped as retired, and no line retires its last epoch.
+/// - `NeverFull`: it was dropped at a full channel. Fewer rows than the capacity went over that channel,
+///   or ended before it and were not delivered.
+///
 /// Condition: the trace was read over the topology, and each row has an id of its own, as
 /// `ir_trace::check_trace` finds. The capacity and the most packets are those of the run. Takes
 /// O(r (s + h)) for r rows of h hops in all and s steps.

@@ -36,8 +36,8 @@ pub extern "C" fn bz_head(line: &[u32], epoch: u32, label: u32) -> u32
     ensures { result ≡ verdict_number (head_verdict (slice_index line.now 0) (slice_index line.now 1)
         (slice_index line.now 2) epoch label) }
 {
-    // These are the tests of `ir_lines::head_verdict`. A match over its verdict would have a place that is never reached,
-    // which a module for BPF may not have.
+    // These are the tests of `ir_lines::head_verdict`. A match over its verdict would have a place that is never
+    // reached, which a module for BPF may not have.
     if line[0] != epoch {
         3
     } else if label == line[2] {
