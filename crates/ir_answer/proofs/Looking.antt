@@ -27,9 +27,9 @@ use Rattle.ir_core.specs.Codes.{open_error_of}
 use Rattle.ir_cli.specs.Lines.{numbering_line, opening_line}
 use Rattle.ir_cli.specs.Openings.{topology_fault, topology_graph, root_name, root_in, kind_asked, label_order, AnswersRoot, AnswersOrder}
 use Rattle.ir_cli.specs.declared.words.Sub.{Sub}
-use Rattle.ir_cli.specs.declared.words.Sub.TheVariants.{Plan as Planning, Walk, Stats, Compare, Draw, Prefixes, Ranges as Ranging, Sim, Live, Check}
+use Rattle.ir_cli.specs.declared.words.Sub.TheVariants.{Plan as Planning, Walk, Stats, Compare, Draw, Prefixes, Ranges as Ranging, Xdp, Sim, Live, Check}
 use Rattle.ir_answer.specs.declared.look.Show.{Show}
-use Rattle.ir_answer.specs.declared.look.Show.TheVariants.{Between, Beside, Drawing, Circle}
+use Rattle.ir_answer.specs.declared.look.Show.TheVariants.{Between, Beside, Drawing, Circle, Lines}
 use Rattle.ir_answer.specs.Looks.{from_name, to_name, drawn_name, Says, AnswerShows, AnswersEnds, AnswersBothEnds, AnswersDrawn, AnswersFigures, AnswersShow, AnswersAsked, AnswersLook, AnswersLabels, AreTexts, LookAnswers, IsNode, IsLabelling, AreShown, IsNetwork, IsOneDrawn, IsShow, RefusesLabels, RefusesEnds, RefusesFigures, RefusesShow}
 use Rattle.ir_plan.specs.Building.{Labelling, FromRoot, ByList, IsPlanBy, RefusesPlan}
 use Rattle.ir_show.specs.Alone.{IsWalkOfPlan}
@@ -113,6 +113,8 @@ of_show Stats words g answers show answer is holds = of_figures (detour_of words
 of_show Draw words g answers show answer is holds = of_drawn (drawn_name words) words.svg (from_name words) (to_name words) g answers show answer is holds
 of_show Prefixes words g answers show answer same holds = subst (λ (s : Show). answers s answer) same holds
 of_show Ranging words g answers show answer same holds = subst (λ (s : Show). answers s answer) same holds
+of_show Xdp words g answers show answer (u, is, same) holds =
+    of_root g (drawn_name words) (λ v. answers (Lines v words.epoch)) answer u is (subst (λ (s : Show). answers s answer) same holds)
 of_show Compare words g answers show answer none holds = absurd none
 of_show Sim words g answers show answer none holds = absurd none
 of_show Live words g answers show answer none holds = absurd none
@@ -142,6 +144,7 @@ refuses_show Stats words g answers line refuses = refuses_figures (detour_of wor
 refuses_show Draw words g answers line refuses = refuses_drawn (drawn_name words) words.svg (from_name words) (to_name words) g answers line refuses
 refuses_show Prefixes words g answers line refuses = absurd refuses
 refuses_show Ranging words g answers line refuses = absurd refuses
+refuses_show Xdp words g answers line refuses = option_more (root_in (names g) (drawn_name words)) (λ same. same) (λ u none. absurd none) refuses
 refuses_show Compare words g answers line refuses = absurd refuses
 refuses_show Sim words g answers line refuses = absurd refuses
 refuses_show Live words g answers line refuses = absurd refuses

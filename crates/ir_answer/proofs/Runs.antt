@@ -7,7 +7,7 @@ use Rattle.ir_cli.specs.declared.ending.Ending.TheVariants as endings
 use Rattle.ir_cli.specs.declared.read.Source.{Source}
 use Rattle.ir_cli.specs.declared.words.Words.{Words}
 use Rattle.ir_cli.specs.declared.words.Sub.{Sub}
-use Rattle.ir_cli.specs.declared.words.Sub.TheVariants.{Plan, Walk, Stats, Compare, Draw, Prefixes, Ranges, Sim, Live, Check}
+use Rattle.ir_cli.specs.declared.words.Sub.TheVariants.{Plan, Walk, Stats, Compare, Draw, Prefixes, Ranges, Xdp, Sim, Live, Check}
 use Rattle.ir_cli.specs.Answer.{Answer, Ran, Found, Refused, NoThread}
 use Rattle.ir_cli.specs.Ending.{EndsAs}
 use Rattle.ir_cli.specs.Notices.{notice_line}
@@ -124,6 +124,7 @@ plain_without_live live Compare other words texts answer holds = holds
 plain_without_live live Draw other words texts answer holds = holds
 plain_without_live live Prefixes other words texts answer holds = holds
 plain_without_live live Ranges other words texts answer holds = holds
+plain_without_live live Xdp other words texts answer holds = holds
 plain_without_live live Sim other words texts answer holds = holds
 plain_without_live live Live other words texts answer holds = absurd (other refl)
 plain_without_live live Check other words texts answer holds = holds
@@ -141,6 +142,7 @@ fits_sub Compare words fits = tt
 fits_sub Draw words fits = fits
 fits_sub Prefixes words fits = fits
 fits_sub Ranges words fits = fits
+fits_sub Xdp words fits = fits
 fits_sub Sim words fits = tt
 fits_sub Live words fits = tt
 fits_sub Check words fits = tt

@@ -5,7 +5,7 @@ use Rattle.ir_cli.specs.declared.words.Words.{Words}
 use Rattle.ir_cli.specs.declared.read.Source.{Source}
 use Rattle.ir_cli.specs.declared.read.Source.TheVariants.{Input, Topology, Script, Trace, Numbering}
 use Rattle.ir_cli.specs.declared.words.Sub.{Sub}
-use Rattle.ir_cli.specs.declared.words.Sub.TheVariants.{Plan, Walk, Stats, Compare, Draw, Prefixes, Ranges, Sim, Live, Check}
+use Rattle.ir_cli.specs.declared.words.Sub.TheVariants.{Plan, Walk, Stats, Compare, Draw, Prefixes, Ranges, Xdp, Sim, Live, Check}
 use Rattle.ir_answer.specs.Looks.{LookAnswers}
 use Rattle.ir_answer.specs.Compares.{compare_sources, CompareAnswers}
 use Rattle.ir_cli.specs.Answer.{Answer, NoThread}
@@ -16,8 +16,8 @@ use Rattle.ir_answer.specs.Plays.{AnswersScript}
 use Rattle.ir_answer.specs.Checks.{AnswersChecked}
 use Rattle.ir_answer.specs.Formed.{InForm}
 
--- the inputs of `plan`, `walk`, `stats`, `draw`, `prefixes` and `ranges`, of `sim` and `live`, and of `check`, in the
--- order of reading
+-- the inputs of `plan`, `walk`, `stats`, `draw`, `prefixes`, `ranges` and `xdp`, of `sim` and `live`, and of `check`, in
+-- the order of reading
 abbrev pub look_sources : Words → List Source
 look_sources words = (if is_one_input words then Input else Topology) ∷ (if has_order words then Numbering ∷ [] else [])
 
@@ -64,6 +64,7 @@ sources_by Compare words = compare_sources words
 sources_by Draw words = look_sources words
 sources_by Prefixes words = look_sources words
 sources_by Ranges words = look_sources words
+sources_by Xdp words = look_sources words
 sources_by Sim words = sim_sources words
 sources_by Live words = sim_sources words
 sources_by Check words = check_sources words
@@ -89,6 +90,7 @@ module _ (live : Words → List (List ℕ) → Answer → Type 0) where
   PlainBy Draw words texts answer = LookAnswers Draw words texts answer
   PlainBy Prefixes words texts answer = LookAnswers Prefixes words texts answer
   PlainBy Ranges words texts answer = LookAnswers Ranges words texts answer
+  PlainBy Xdp words texts answer = LookAnswers Xdp words texts answer
   PlainBy Sim words texts answer = SimAnswers words texts answer
   PlainBy Live words texts answer = live words texts answer
   PlainBy Check words texts answer = CheckAnswers words texts answer

@@ -7,7 +7,7 @@ use Rattle.ir_json.specs.declared.shape.Shape.TheVariants as shapes
 use Rattle.ir_json.specs.JsonText.{json_text}
 use Rattle.ir_cli.specs.declared.words.Words.{Words}
 use Rattle.ir_cli.specs.declared.words.Sub.{Sub}
-use Rattle.ir_cli.specs.declared.words.Sub.TheVariants.{Plan, Walk, Stats, Compare, Draw, Prefixes, Ranges, Sim, Live, Check}
+use Rattle.ir_cli.specs.declared.words.Sub.TheVariants.{Plan, Walk, Stats, Compare, Draw, Prefixes, Ranges, Xdp, Sim, Live, Check}
 use Rattle.ir_cli.specs.Answer.{Answer, Ran, Found, Refused, NoThread}
 use Rattle.ir_cli.specs.declared.ending.Ending.TheVariants as endings
 use Rattle.ir_cli.specs.declared.outcome.RunOutcome.{RunOutcome}
@@ -18,7 +18,7 @@ use Rattle.ir_cli.specs.Notices.{told_text}
 abbrev pub trace_shape : Words → Shape
 trace_shape words = if words.restamps == 0 then shapes.Trace else shapes.Restamps
 
--- the shape of what a subcommand prints; a drawing has none
+-- the shape of what a subcommand prints; a drawing has none, and neither have lines
 abbrev pub shape_of : Sub → Words → Option Shape
 shape_of Plan words = Some (if words.order_alone then shapes.Order else shapes.Plan)
 shape_of Walk words = Some shapes.Walk
@@ -27,6 +27,7 @@ shape_of Compare words = Some shapes.Compare
 shape_of Draw words = None
 shape_of Prefixes words = Some shapes.Prefixes
 shape_of Ranges words = Some shapes.Ranges
+shape_of Xdp words = None
 shape_of Sim words = Some (trace_shape words)
 shape_of Live words = Some (trace_shape words)
 shape_of Check words = Some shapes.Check

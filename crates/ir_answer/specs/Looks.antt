@@ -1,5 +1,5 @@
 -- What a topology comes to as a text that shows its plan: its rows, the order of its labels, a walk, its figures, a
--- drawing, the circle of its labels, its forwarding tables, or its ranges of labels.
+-- drawing, the circle of its labels, its forwarding tables, its ranges of labels, or the lines of a node's row.
 use Rattle.std.specs.Prelude.{◌≡◌, ◌<◌, ℕ, length, Bool, IfSome, List, [], ◌∷◌, Option, None, Some, if◌then◌else◌, string_bytes}
 use Rattle.std.specs.Option.{option_map}
 use Rattle.std.specs.Borrow.{Bor}
@@ -14,16 +14,17 @@ use Rattle.ir_exports.specs.Ring.{circle_dot}
 use Rattle.ir_exports.specs.OrderText.{order_text}
 use Rattle.ir_exports.specs.PrefixesText.{IsPrefixesOf}
 use Rattle.ir_exports.specs.RangesText.{ranges_text}
+use Rattle.ir_exports.specs.LinesText.{IsLinesText}
 use Rattle.ir_cli.specs.declared.words.Words.{Words}
 use Rattle.ir_cli.specs.declared.words.Second.{Second}
 use Rattle.ir_cli.specs.declared.words.Sub.{Sub}
-use Rattle.ir_cli.specs.declared.words.Sub.TheVariants.{Plan as Planning, Walk, Stats, Compare, Draw, Prefixes, Ranges as Ranging, Sim, Live, Check}
+use Rattle.ir_cli.specs.declared.words.Sub.TheVariants.{Plan as Planning, Walk, Stats, Compare, Draw, Prefixes, Ranges as Ranging, Xdp, Sim, Live, Check}
 use Rattle.ir_model.specs.declared.Detour.{Detour}
 use Rattle.ir_model.specs.declared.Kind.{Kind}
 use Rattle.ir_cli.specs.Kinds.{detour_of, kind_of}
 use Rattle.ir_plan.specs.declared.tour.LabelOrder.TheVariants.{DepthFirst}
 use Rattle.ir_answer.specs.declared.look.Show.{Show}
-use Rattle.ir_answer.specs.declared.look.Show.TheVariants.{Rows, Between, Figures, Beside, Drawing, Circle, Tables, Ranges, Order}
+use Rattle.ir_answer.specs.declared.look.Show.TheVariants.{Rows, Between, Figures, Beside, Drawing, Circle, Tables, Ranges, Lines, Order}
 use Rattle.ir_script.specs.Order.{IsOrder}
 use Rattle.ir_cli.specs.Answer.{Answer, Ran, Found, Refused, NoThread}
 use Rattle.ir_cli.specs.Openings.{root_name, root_in, kind_asked, label_order, AnswersTopology, AnswersRoot, AnswersOrder}
@@ -38,7 +39,7 @@ from_name words = option_map string_bytes words.from
 abbrev pub to_name : Words → Option Name
 to_name words = option_map string_bytes words.to
 
--- the name of the node whose intervals are drawn, if the words have one
+-- the name of the node whose intervals are drawn, or whose lines are printed, if the words have one
 abbrev pub drawn_name : Words → Option Name
 drawn_name words = option_map string_bytes words.node
 
@@ -84,6 +85,7 @@ Says (Drawing ends) nodes plan text = IsDrawingOf nodes plan ends text
 Says (Circle u is_svg) nodes plan text = text ≡ circle_text is_svg nodes plan u
 Says (Tables is_disjoint) nodes plan text = IsPrefixesOf is_disjoint nodes plan text
 Says Ranges nodes plan text = text ≡ ranges_text nodes plan
+Says (Lines u epoch) nodes plan text = IsLinesText plan u epoch text
 Says Order nodes plan text = text ≡ order_text nodes plan
 
 -- what an answer says of a plan, by what is shown
@@ -103,6 +105,7 @@ AreAmong n (Drawing ends) = IfSome ends (λ e. (e.0 < n) × (e.1 < n))
 AreAmong n (Circle u is_svg) = u < n
 AreAmong n (Tables is_disjoint) = Unit {0}
 AreAmong n Ranges = Unit {0}
+AreAmong n (Lines u epoch) = u < n
 AreAmong n Order = Unit {0}
 
 -- the answer to a graph, a kind and labels, by what is shown
@@ -130,6 +133,7 @@ AnswersAsked Stats words g answers = AnswersFigures (detour_of words.detour (len
 AnswersAsked Draw words g answers = AnswersDrawn (drawn_name words) words.svg (from_name words) (to_name words) g answers
 AnswersAsked Prefixes words g answers = answers (Tables words.disjoint)
 AnswersAsked Ranging words g answers = answers Ranges
+AnswersAsked Xdp words g answers = AnswersRoot g (drawn_name words) (λ u. answers (Lines u words.epoch))
 AnswersAsked Compare words g answers = λ answer. ⊥
 AnswersAsked Sim words g answers = λ answer. ⊥
 AnswersAsked Live words g answers = λ answer. ⊥
@@ -203,6 +207,7 @@ IsShow Stats words g show = AreShown (detour_of words.detour (length g)) words.s
 IsShow Draw words g show = IsDrawn words g show
 IsShow Prefixes words g show = show ≡ Tables words.disjoint
 IsShow Ranging words g show = show ≡ Ranges
+IsShow Xdp words g show = (u : ℕ) × IsNode g (drawn_name words) u × (show ≡ Lines u words.epoch)
 IsShow Compare words g show = ⊥
 IsShow Sim words g show = ⊥
 IsShow Live words g show = ⊥

@@ -12,7 +12,7 @@ use ir_show::plan_text::PlanText;
 use ir_streams::{Writer, write_text};
 use std::alloc::{AllocError, Global};
 
-/// The shape of what a subcommand prints; a drawing has none.
+/// The shape of what a subcommand prints; a drawing has none, and neither have lines.
 fn shape_of(sub: Sub, words: &Words) -> Option<Shape>
     ensures { result ≡ shape_of sub words.now }
 {
@@ -22,7 +22,7 @@ fn shape_of(sub: Sub, words: &Words) -> Option<Shape>
         Sub::Walk => Some(Shape::Walk),
         Sub::Stats => Some(Shape::Stats),
         Sub::Compare => Some(Shape::Compare),
-        Sub::Draw => None,
+        Sub::Draw | Sub::Xdp => None,
         Sub::Prefixes => Some(Shape::Prefixes),
         Sub::Ranges => Some(Shape::Ranges),
         Sub::Sim | Sub::Live if words.restamps == 0 => Some(Shape::Trace),

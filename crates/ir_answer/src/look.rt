@@ -14,7 +14,7 @@ ghost use Rattle.ir_cli.specs.{Kinds.detour_of, Openings.kind_asked, Reading.tex
 use crate::asking::{AnswerStop, opening_stop, read_graph, read_node};
 use ir_cli::{Notice, RunReply, Sub, Words, kind_asked, label_order};
 use ir_core::OpenError;
-use ir_exports::{circle_dot, circle_svg, order_text, prefixes_text_by, ranges_text};
+use ir_exports::{circle_dot, circle_svg, lines_text, order_text, prefixes_text_by, ranges_text};
 use ir_figures::{figures_text, figures_text_beside};
 use ir_graph::Graph;
 use ir_model::Kind;
@@ -43,6 +43,8 @@ pub enum Show {
     Tables(bool),
     /// The ranges of labels.
     Ranges,
+    /// The lines of a node's row for an epoch.
+    Lines(u16, u16),
     /// The order of the labels.
     Order,
 }
@@ -131,6 +133,7 @@ fn text_of(
         Show::Circle(node, is_svg) => circle_text(alloc, graph, plan, node, is_svg),
         Show::Tables(is_disjoint) => prefixes_text_by(crew, alloc, graph, plan, is_disjoint),
         Show::Ranges => ranges_text(alloc, graph, plan),
+        Show::Lines(node, epoch) => lines_text(alloc, plan, node, epoch),
         Show::Order => order_text(alloc, graph, plan),
     }
 }
@@ -268,6 +271,10 @@ fn read_show(sub: Sub, words: &Words, graph: &Graph) -> Result<Show, AnswerStop>
         Sub::Stats => read_figures(words, graph),
         Sub::Prefixes => Ok(Show::Tables(words.disjoint)),
         Sub::Ranges => Ok(Show::Ranges),
+        Sub::Xdp => {
+            let node = read_node(graph, &words.node)?;
+            Ok(Show::Lines(node, words.epoch))
+        }
         Sub::Walk => {
             let (from, to) = read_ends(words, graph)?;
             Ok(Show::Between(from, to))
@@ -410,8 +417,8 @@ fn kind_over(words: &Words, graph: &Graph) -> Kind
 }
 
 /// The answer to the text of a topology, and to that of an order where the words have one: what is shown of the plan.
-/// Refused are, in this order, the topology's first fault, the order's or a root that is no node, an end, a circle's
-/// node or a second plan's root that is none, and what refuses the plan. The plan's rows are made by a crew.
+/// Refused are, in this order, the topology's first fault, the order's or a root that is no node, an end, a node to show
+/// or a second plan's root that is none, and what refuses the plan. The plan's rows are made by a crew.
 pub fn look_at(
     crew: &impl Crew,
     alloc: Global,

@@ -42,7 +42,7 @@ pub fn sources_by(sub: Sub, words: &Words) -> &'static [Source]
 {
     let is_one = words.is_one_input();
     match sub {
-        Sub::Plan | Sub::Walk | Sub::Stats | Sub::Draw | Sub::Prefixes | Sub::Ranges => {
+        Sub::Plan | Sub::Walk | Sub::Stats | Sub::Draw | Sub::Prefixes | Sub::Ranges | Sub::Xdp => {
             look_sources(words)
         }
         Sub::Compare | Sub::Sim | Sub::Live | Sub::Check if is_one => &[Source::Input],
@@ -72,7 +72,7 @@ fn answer_by<C: Crew>(
 {
     let words = request.words;
     match request.sub {
-        Sub::Plan | Sub::Walk | Sub::Stats | Sub::Draw | Sub::Prefixes | Sub::Ranges => {
+        Sub::Plan | Sub::Walk | Sub::Stats | Sub::Draw | Sub::Prefixes | Sub::Ranges | Sub::Xdp => {
             look_at(crew, alloc, request.sub, words, texts)
         }
         Sub::Compare => compare(crew, alloc, words, texts),

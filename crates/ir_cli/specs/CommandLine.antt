@@ -14,7 +14,7 @@ use Rattle.ir_cli.specs.declared.options.Choices.{Choices}
 use Rattle.ir_cli.specs.declared.words.Sub.{Sub}
 use Rattle.ir_cli.specs.declared.words.Sub.TheVariants as subs
 use Rattle.ir_core.specs.declared.TheConstants.{MAX_CAPACITY, MAX_PACKETS, MAX_RESTAMPS}
-use Rattle.ir_cli.specs.declared.TheConstants.{MAX_THREADS, MAX_LANDMARKS, MIN_STRETCH, MAX_STRETCH, DEFAULT_CAPACITY, DEFAULT_PACKETS, DEFAULT_RESTAMPS}
+use Rattle.ir_cli.specs.declared.TheConstants.{MAX_THREADS, MAX_LANDMARKS, MAX_EPOCH, MIN_STRETCH, MAX_STRETCH, DEFAULT_CAPACITY, DEFAULT_PACKETS, DEFAULT_RESTAMPS}
 
 -- `--NAME`
 abbrev pub flag : Text → Rule
@@ -40,6 +40,14 @@ lettered letter rule = record rule { short = slice_get letter 0 }
 abbrev pub file : Text → Rule
 file name = record (new_rule name) { value_names = 1 }
 
+-- one of some words, by its place
+abbrev pub placed_choice : Text → Bor (List (Bor Text)) → Rule
+placed_choice name words = record (file name) { parser = Some (takes.Names words) }
+
+-- a number from one to another, by its place
+abbrev pub placed_number : Text → ℕ → ℕ → Rule
+placed_number name least most = record (file name) { parser = Some (takes.Signed (pos least) (pos most)) }
+
 -- it must be given
 abbrev pub needed : Rule → Rule
 needed rule = record rule { required = true }
@@ -61,6 +69,7 @@ sub_word subs.Compare = codes "compare"
 sub_word subs.Draw = codes "draw"
 sub_word subs.Prefixes = codes "prefixes"
 sub_word subs.Ranges = codes "ranges"
+sub_word subs.Xdp = codes "xdp"
 sub_word subs.Sim = codes "sim"
 sub_word subs.Live = codes "live"
 sub_word subs.Check = codes "check"
@@ -75,6 +84,7 @@ abbrev pub AreTheirWords : Choices → Type 0
 AreTheirWords choices = (texts choices.formats.now ≡ codes "adjlist" ∷ codes "edgelist" ∷ [])
     × (texts choices.kinds.now ≡ codes "tree" ∷ codes "shortest" ∷ codes "compact" ∷ codes "landmark" ∷ [])
     × (texts choices.numberings.now ≡ codes "depth-first" ∷ codes "tour" ∷ [])
+    × (texts choices.parts.now ≡ codes "table" ∷ [])
 
 -- the flag of output as JSON
 abbrev pub json : Rule
@@ -125,6 +135,10 @@ drawn =
 abbrev pub prefixed : List Rule
 prefixed = flag (codes "disjoint") ∷ json ∷ []
 
+-- the node whose table `xdp` prints
+abbrev pub noded : List Rule
+noded = needed (option (codes "node")) ∷ []
+
 -- the flags of `check`
 abbrev pub whole_flag : List Rule
 whole_flag = flag (codes "whole") ∷ json ∷ []
@@ -149,6 +163,13 @@ module _ (choices : Choices) where
       ∷ number (codes "landmarks") 1 MAX_LANDMARKS
       ∷ number (codes "stretch") MIN_STRETCH MAX_STRETCH
       ∷ lettered (codes "r") (option (codes "root"))
+      ∷ []
+
+  -- what `xdp` prints, and the epoch of it
+  abbrev pub placed : List Rule
+  placed =
+      needed (placed_choice (codes "part") choices.parts)
+      ∷ needed (placed_number (codes "epoch") 1 MAX_EPOCH)
       ∷ []
 
   -- what the comparison of plans takes
@@ -193,6 +214,7 @@ module _ (choices : Choices) where
   rules_of subs.Draw = routed ++ shown ++ drawn ++ telling
   rules_of subs.Prefixes = routed ++ shown ++ prefixed ++ telling
   rules_of subs.Ranges = routed ++ shown ++ as_json ++ telling
+  rules_of subs.Xdp = routed ++ placed ++ shown ++ noded ++ telling
   rules_of subs.Sim = routed ++ played ++ as_json ++ telling
   rules_of subs.Live = routed ++ played ++ as_json ++ telling
   rules_of subs.Check = routed ++ checked ++ whole_flag ++ telling
@@ -203,7 +225,7 @@ module _ (choices : Choices) where
   abbrev pub subcommands : List Shape
   subcommands =
       map subcommand (subs.Plan ∷ subs.Walk ∷ subs.Stats ∷ subs.Compare ∷ subs.Draw ∷ subs.Prefixes ∷ subs.Ranges
-      ∷ subs.Sim ∷ subs.Live ∷ subs.Check ∷ [])
+      ∷ subs.Xdp ∷ subs.Sim ∷ subs.Live ∷ subs.Check ∷ [])
 
   -- the program
   abbrev pub program : Called → App

@@ -5,7 +5,7 @@ use Rattle.std.specs.List.{list_any, before_first, after_first}
 use Rattle.std.specs.Str.Parse.{IsNumeral, digits_value, without_leading_plus}
 use Rattle.clap.specs.Words.{Kinds, Row, Text, fault_of, first_of, one_of, subcommand_of}
 use Rattle.ir_core.specs.declared.TheConstants.{MAX_CAPACITY, MAX_PACKETS, MAX_RESTAMPS}
-use Rattle.ir_cli.specs.declared.TheConstants.{MAX_THREADS, MAX_LANDMARKS, MIN_STRETCH, MAX_STRETCH, DEFAULT_CAPACITY, DEFAULT_PACKETS, DEFAULT_RESTAMPS}
+use Rattle.ir_cli.specs.declared.TheConstants.{MAX_THREADS, MAX_LANDMARKS, MAX_EPOCH, MIN_STRETCH, MAX_STRETCH, DEFAULT_CAPACITY, DEFAULT_PACKETS, DEFAULT_RESTAMPS}
 use Rattle.ir_cli.specs.declared.choices.DetourChoice.{DetourChoice}
 use Rattle.ir_cli.specs.declared.kinds.KindChoice.{KindChoice}
 use Rattle.ir_cli.specs.declared.kinds.KindChoice.TheVariants.{Tree, Shortest, Compact, Landmark}
@@ -90,7 +90,7 @@ is_comma byte = byte == 44
 abbrev pub second_kind : Text → Text
 second_kind word = before_first is_comma word
 
--- the name of its root, behind a comma
+-- the name of its root, after a comma
 abbrev pub second_root : Text → Option Text
 second_root word = if list_any is_comma word then Some (after_first is_comma word) else None
 
@@ -119,6 +119,7 @@ pub record Means (name : Text) (rows : List Row) (words : Words) : Type 0 where
   pub from : option_map string_bytes words.from ≡ first_of (codes "from") rows
   pub to : option_map string_bytes words.to ≡ first_of (codes "to") rows
   pub node : option_map string_bytes words.node ≡ first_of (codes "node") rows
+  pub epoch : IsNumberElse (codes "epoch") rows 1 MAX_EPOCH 1 words.epoch
   pub svg : words.svg ≡ is_set (codes "svg") rows
   pub second : IsSecond (second_word rows) (first_of (codes "root") rows) words.second
   pub disjoint : words.disjoint ≡ is_set (codes "disjoint") rows

@@ -7,17 +7,19 @@ use Rattle.clap.specs.Simple.{new_shape}
 use Rattle.clap.specs.declared.builder.action.ArgAction.TheVariants.{SetTrue}
 use Rattle.clap.specs.declared.builder.value_parser.ValueParser.TheVariants as vp
 use Rattle.ir_cli.specs.declared.options.Accepts.{Accepts}
-use Rattle.ir_cli.specs.declared.options.Accepts.TheVariants.{Nothing, WordOf, Number, File}
+use Rattle.ir_cli.specs.declared.options.Accepts.TheVariants.{Nothing, WordOf, Number, File, PlaceOf, Place}
 use Rattle.ir_cli.specs.declared.options.Need.{Need}
 use Rattle.ir_cli.specs.declared.options.Need.TheVariants.{Free, Must, Else}
 use Rattle.ir_cli.specs.declared.options.Choice.{Choice}
-use Rattle.ir_cli.specs.declared.options.Choice.TheVariants.{Format, Kind, Numbering}
+use Rattle.ir_cli.specs.declared.options.Choice.TheVariants.{Format, Kind, Numbering, Part}
 use Rattle.ir_cli.specs.declared.options.Choices.{Choices}
 use Rattle.ir_cli.specs.declared.options.Taken.{Taken}
 
 abbrev pub rule_named : Text → Accepts → Rule
 rule_named name Nothing = record (new_rule name) { long = Some name; action = Some SetTrue }
 rule_named name (File value) = record (new_rule name) { value_names = 1 }
+rule_named name (PlaceOf value choice) = record (new_rule name) { value_names = 1 }
+rule_named name (Place value least most) = record (new_rule name) { value_names = 1 }
 rule_named name _ = record (new_rule name) { long = Some name; value_names = 1 }
 
 abbrev pub rule_lettered : Option ℕ → Rule → Rule
@@ -28,10 +30,14 @@ abbrev pub choice_words : Choices → Choice → Bor (List (Bor Text))
 choice_words choices Format = choices.formats
 choice_words choices Kind = choices.kinds
 choice_words choices Numbering = choices.numberings
+choice_words choices Part = choices.parts
 
 abbrev pub rule_valued : Choices → Accepts → Rule → Rule
 rule_valued choices (WordOf value choice) rule = record rule { parser = Some (vp.Names (choice_words choices choice)) }
+rule_valued choices (PlaceOf value choice) rule = record rule { parser = Some (vp.Names (choice_words choices choice)) }
 rule_valued choices (Number value least most) rule =
+    record rule { parser = Some (signed_between (int_max (pos 0) (pos least)) (int_min (pos 65535) (pos most))) }
+rule_valued choices (Place value least most) rule =
     record rule { parser = Some (signed_between (int_max (pos 0) (pos least)) (int_min (pos 65535) (pos most))) }
 rule_valued choices _ rule = rule
 

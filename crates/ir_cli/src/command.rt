@@ -22,8 +22,10 @@ static KINDS: [&str; 4] = ["tree", "shortest", "compact", "landmark"];
 
 static NUMBERINGS: [&str; 2] = ["depth-first", "tour"];
 
+static PARTS: [&str; 1] = ["table"];
+
 /// The subcommands, as help lists them.
-static SUBCOMMANDS: [Sub; 10] = [
+static SUBCOMMANDS: [Sub; 11] = [
     Sub::Plan,
     Sub::Walk,
     Sub::Stats,
@@ -31,6 +33,7 @@ static SUBCOMMANDS: [Sub; 10] = [
     Sub::Draw,
     Sub::Prefixes,
     Sub::Ranges,
+    Sub::Xdp,
     Sub::Sim,
     Sub::Live,
     Sub::Check,
@@ -45,7 +48,9 @@ fn named<'a>(alloc: Global, taken: Taken) -> Arg<'a>
 {
     let arg = Arg::new(alloc, taken.name).help(taken.help);
     match taken.takes {
-        Accepts::File(value) => arg.value_name(value),
+        Accepts::File(value) | Accepts::PlaceOf(value, _) | Accepts::Place(value, _, _) => {
+            arg.value_name(value)
+        }
         Accepts::Nothing => arg.long(taken.name).action(ArgAction::SetTrue),
         Accepts::Word(value) | Accepts::WordOf(value, _) | Accepts::Number(value, _, _) => {
             arg.long(taken.name).value_name(value)
@@ -61,6 +66,7 @@ fn words_of<'a>(choices: Choices<'a>, choice: Choice) -> &'a [&'a str]
         Choice::Format => choices.formats,
         Choice::Kind => choices.kinds,
         Choice::Numbering => choices.numberings,
+        Choice::Part => choices.parts,
     }
 }
 
@@ -81,10 +87,12 @@ fn parser_of<'a>(choices: Choices<'a>, takes: Accepts) -> Option<ValueParser<'a>
         ≡ option_map_or (λ parser. record rule { parser = Some parser }) result rule }
 {
     match takes {
-        Accepts::WordOf(_, choice) => Some(ValueParser::Names(words_of(choices, choice))),
-        Accepts::Number(_, least, most) => Some(clap::value_parser!(u16).range(
-            least as i64..=most as i64,
-        )),
+        Accepts::WordOf(_, choice) | Accepts::PlaceOf(_, choice) => {
+            Some(ValueParser::Names(words_of(choices, choice)))
+        }
+        Accepts::Number(_, least, most) | Accepts::Place(_, least, most) => Some(
+            clap::value_parser!(u16).range(least as i64..=most as i64),
+        ),
         Accepts::Nothing | Accepts::Word(_) | Accepts::File(_) => None,
     }
 }
@@ -190,6 +198,7 @@ fn choices_told<'a>() -> Choices<'a>
         formats: FORMATS.as_slice(),
         kinds: KINDS.as_slice(),
         numberings: NUMBERINGS.as_slice(),
+        parts: PARTS.as_slice(),
     }
 }
 

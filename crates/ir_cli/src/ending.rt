@@ -35,7 +35,7 @@ pub fn status_of(ending: Ending) -> u8
 }
 
 /// Whether all of the output was written by a run that ended with this status: done, or with a finding, of which
-/// nothing is told on standard error.
+/// nothing is reported on standard error.
 pub fn is_whole(status: u8, is_told: bool) -> bool
     ensures { result ≡ is_whole status is_told }
 {

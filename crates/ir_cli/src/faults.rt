@@ -1,4 +1,4 @@
-//! The rules of words that are taken, and what stands where one is broken.
+//! The rules of words that are taken, and the message where one is broken.
 
 ghost use Rattle.std.specs.Prelude.{◌≡◌, true, false, MatchOption, string_bytes};
 ghost use Rattle.std.specs.List.{list_all};
@@ -40,11 +40,11 @@ fn has_its_files(words: &Words) -> bool
 }
 
 /// That a tree takes another numbering than depth first.
-static TREE_NUMBERING: &str = "'--kind tree' takes '--numbering depth-first' alone";
+static TREE_NUMBERING: &str = "'--kind tree' works only with '--numbering depth-first'";
 
 /// That labels by landmarks have no other order.
 static LANDMARK_NUMBERING: &str =
-    "'--kind landmark' takes no '--numbering': its landmarks number the nodes";
+    "'--kind landmark' cannot be used with '--numbering': its landmarks number the nodes";
 
 /// What is wrong with a numbering other than depth first of a kind, if anything is.
 fn list_fault(kind: KindChoice) -> Option<&'static str>
@@ -64,12 +64,10 @@ fn numbering_fault(words: &Words) -> Option<&'static str>
     match &words.numbering {
         NumberingChoice::Tour => list_fault(words.kind),
         NumberingChoice::File(name) if name.as_str() == "-" => {
-            Some("'--numbering' takes 'depth-first', 'tour' or a file, not '-'")
+            Some("'--numbering' takes 'depth-first', 'tour' or a file name, not '-'")
         }
         NumberingChoice::File(_) if words.root.is_some() => {
-            Some(
-                "'--root' does not go with a file's '--numbering', of which the first node is the root",
-            )
+            Some("'--root' cannot be used with a '--numbering' file, whose first node is the root")
         }
         NumberingChoice::DepthFirst | NumberingChoice::File(_) => None,
     }
@@ -80,13 +78,13 @@ fn drawing_fault(words: &Words) -> Option<&'static str>
     ensures { MatchOption result (takes_drawing words.now ≡ true) (λ _. takes_drawing words.now ≡ false) }
 {
     if words.node.is_some() && (words.from.is_some() || words.to.is_some()) {
-        Some("'--node' does not go with '--from' and '--to'")
+        Some("'--node' cannot be used with '--from' or '--to'")
     } else if words.from.is_some() && words.to.is_none() {
-        Some("'--from' takes '--to' beside it")
+        Some("'--from' requires '--to'")
     } else if words.to.is_some() && words.from.is_none() {
-        Some("'--to' takes '--from' beside it")
+        Some("'--to' requires '--from'")
     } else if words.svg && words.node.is_none() {
-        Some("'--svg' takes '--node' beside it")
+        Some("'--svg' requires '--node'")
     } else {
         None
     }
@@ -110,7 +108,7 @@ fn detour_fault(words: &Words) -> Option<&'static str>
     ensures { MatchOption result (takes_detour words.now ≡ true) (λ _. takes_detour words.now ≡ false) }
 {
     if words.detour.is_said && !may_go_round(words) {
-        Some("'--landmarks' and '--stretch' take '--kind landmark' beside them")
+        Some("'--landmarks' and '--stretch' require '--kind landmark'")
     } else {
         None
     }
@@ -173,7 +171,7 @@ pub fn second_fault(found: &ArgMatches<'_>, words: &Words) -> Option<&'static st
 {
     if typed(found, "with").is_some() && words.second.is_none() {
         Some(
-            "'--with' takes 'tree', 'shortest', 'compact' or 'landmark', and behind a comma a root",
+            "'--with' takes 'tree', 'shortest', 'compact' or 'landmark', optionally with a root after a comma",
         )
     } else {
         None

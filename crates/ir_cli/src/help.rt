@@ -1,4 +1,4 @@
-//! What stands in the help of the program and of its subcommands.
+//! The texts in the help of the program and of its subcommands.
 ghost use Rattle.std.specs.Prelude.{◌≡◌};
 ghost use Rattle.ir_cli.specs.CommandLine.{name_of, sub_word};
 
@@ -20,59 +20,60 @@ impl Called {
     }
 }
 
-/// What stands behind the help of `check`.
+/// What follows the help of `check`.
 pub const CHECK_LINES: &str = "\
-What is judged of a row is whether its names, its epochs, its hops and its weight are those of the plans of its epochs.
-It is not looked at whether its packet was injected, whether its link was down or its channel full, whether its epoch was
-retired or had begun, nor whether rows are missing. With --whole these are found too, behind the findings on all rows:
-  NeverInjected       No inject of the script can be its packet's, beside those of the rows before it
-  NotYetInstalled     Its first epoch is beyond those that installs above its packet's inject can have made
+A row is wrong if its names, its epochs, its hops or its weight are not those of the plans of its epochs. This does not
+ask whether its packet was injected, whether its epoch had begun or was retired, whether its link was down or its
+channel was full, nor whether rows are missing. With --whole, check also reports, after the findings on all rows:
+  NeverInjected       No inject in the script can be this packet's, given the rows before it
+  NotYetInstalled     The installs before its inject cannot have made its first epoch
   NeverDown           It was dropped at a link that no line of the script takes down
-  NeverRetired        It was dropped as retired, and no line of the script retires its epoch
-  NeverFull           It was dropped at a full channel, which fewer packets than its capacity can have been in
-For it --capacity and --packets are to be those of the run, too. Each holds of every run by sim or live, whatever lines
-that run refused; rows that are missing at the end are not found.";
+  NeverRetired        It was dropped as retired, but no line of the script retires its epoch
+  NeverFull           It was dropped at a full channel that can never have held --capacity packets
+For --whole, give the --capacity and --packets of the run. Its findings hold for every run by sim or live, whichever
+lines that run refused. Rows that are missing at the end are not found.";
 
-/// What stands behind the help of `sim` and of the program.
+/// What follows the help of `sim` and of the program.
 pub const SCRIPT_LINES: &str = "\
-Lines of a script ('learn', 'take', 'read' and 'act' are lines of 'sim' alone):
-  inject A B          A packet from node A to node B
-  drain               Every packet is carried on, round by round, until none moves
-  down A B            The link between A and B goes down
-  up A B              The link between A and B comes up
-  install tree R      A tree plan from root R over the links that are up becomes the current epoch
-  install shortest R  The same with a plan of shortest ways
-  install compact R   The same with the fewest intervals at each node
-  install landmark R  The same with paths that may go round by --landmarks, up to --stretch percent of the distance
-  retire F            The epochs below F are retired
-  learn E             The injector learns epoch E; it stamps each packet with the greatest that it learnt
-  take N inbox        Node N takes the first packet of its inbox into its hand
-  take N from M       Node N takes the first packet of the link from M into its hand
-  read N K            Node N reads version K of the board
-  act N               Node N acts on the packet in its hand: delivers it, sends it on or drops it
-  # TEXT              A comment, behind a line's words too";
+Lines of a script ('learn', 'take', 'read' and 'act' are for 'sim' only):
+  inject A B          Send a packet from node A to node B
+  drain               Move the packets, round by round, until none can move
+  down A B            Take the link between A and B down
+  up A B              Bring the link between A and B up
+  install tree R      Install a tree plan with root R, over the links that are up, as the new epoch
+  install shortest R  The same, with shortest paths
+  install compact R   The same, with the shortest paths that need the fewest intervals
+  install landmark R  The same, with paths by way of --landmarks, of at most --stretch percent of the distance
+  retire F            Retire the epochs below F
+  learn E             Let the injector learn epoch E; it stamps packets with the greatest epoch that it learnt
+  take N inbox        Let node N take the first packet of its inbox into its hand
+  take N from M       Let node N take the first packet of the link from M into its hand
+  read N K            Let node N read version K of the board
+  act N               Let node N deliver, forward or drop the packet in its hand
+  # TEXT              A comment, also after the words of a line";
 
-/// What stands behind the help of `live`.
+/// What follows the help of `live`.
 pub const LIVE_LINES: &str = "\
 Lines of a script:
-  inject A B          A packet from node A to node B
-  drain               Waiting, until every packet has come to its end or a node has stopped
-  down A B            The link between A and B goes down
-  up A B              The link between A and B comes up
-  install tree R      A tree plan from root R over the links that are up becomes the current epoch
-  install shortest R  The same with a plan of shortest ways
-  install compact R   The same with the fewest intervals at each node
-  install landmark R  The same with paths that may go round by --landmarks, up to --stretch percent of the distance
-  retire F            The epochs below F are retired
-  # TEXT              A comment, behind a line's words too";
+  inject A B          Send a packet from node A to node B
+  drain               Wait until every packet is delivered or dropped, or a node has stopped
+  down A B            Take the link between A and B down
+  up A B              Bring the link between A and B up
+  install tree R      Install a tree plan with root R, over the links that are up, as the new epoch
+  install shortest R  The same, with shortest paths
+  install compact R   The same, with the shortest paths that need the fewest intervals
+  install landmark R  The same, with paths by way of --landmarks, of at most --stretch percent of the distance
+  retire F            Retire the epochs below F
+  # TEXT              A comment, also after the words of a line";
 
 /// The texts in which the program calls itself by a name.
 pub struct HelpTexts {
     pub name: &'static str,
     pub about: &'static str,
-    /// What stands behind the help of `prefixes`, `ranges` and `compare`.
+    /// What follows the help of `prefixes`, `ranges`, `xdp` and `compare`.
     pub prefixes: &'static str,
     pub ranges: &'static str,
+    pub xdp: &'static str,
     pub compare: &'static str,
     /// How the words of `sim`, `live` and `check` are to look.
     pub sim_usage: &'static str,
@@ -88,10 +89,10 @@ macro_rules! texts_by {
     ($name:literal) => {
         HelpTexts {
             name: $name,
-            about: concat!("Interval routing with live relabelling; with no words as '", $name, " sim -'"),
+            about: concat!("Interval routing with live relabelling; without arguments the same as '", $name, " sim -'"),
             prefixes: concat!("\
-Lines that are printed:
-  prefixes KIND N BITS LINES                       The numbers of nodes, of bits of a label, and of lines of tables
+Printed lines:
+  prefixes KIND N BITS LINES                       The numbers of nodes, of bits of a label, and of lines of all nodes
   NODE LABEL [VALUE/LENGTH NEXT]...                The lines of a node; NEXT is a neighbour, or # for unreachable
 
 Example, for a topology with the lines 'a b' and 'b c':
@@ -101,10 +102,10 @@ Example, for a topology with the lines 'a b' and 'b c':
   b 0 2/1 c 0/0 a
   c 2 2/1 # 0/0 b
 
-What goes to a label goes by the line of the longest prefix that holds it; a number beyond the labels goes as the last
-label does, and is unreachable at its node."),
+A packet follows the line with the longest prefix that holds its label. A number above all labels is forwarded as the
+last label is; at the node of that label it is unreachable."),
             ranges: concat!("\
-Lines that are printed:
+Printed lines:
   ranges KIND N COUNT                              The numbers of nodes, and of ranges of all nodes
   NODE LABEL [FROM-TO NEXT]...                     The ranges of a node, ascending; NEXT is a neighbour
 
@@ -115,17 +116,27 @@ Example, for a topology with the lines 'a b' and 'b c':
   b 0 1-1 a 2-2 c
   c 2 0-1 b
 
-What goes to a label goes by the range that has it; a node's own label is in none."),
+A packet follows the range that holds its label; a node's own label is in no range."),
+            xdp: concat!("\
+Printed lines: a line of 32 words for each 128 bytes of the table, in base 16. The first line is a head of 16
+words, the epoch, how many labels there are, the node's own one, the depth and the first line of the lowest level, and a
+root of 16. A word has a start and a port, counted from 0 in the order in which the topology lists the neighbours.
+
+Example, for a topology with the lines 'a b' and 'b c':
+  $ ", $name, " xdp table 1 --node c TOPOLOGY
+  00000001 00000003 00000002 00000000 00000000 00000000 ...
+
+bentzolu-xdp installs such a table in the kernel, and asks it for each label first."),
             compare: concat!("\
-Lines that are printed:
+Printed lines:
   compare N M                                      The numbers of nodes and links
   kind numbering intervals greatest-row ..         The names of the columns
   KIND NUMBERING INTERVALS ROW BITS MEAN WORST DEP The figures of a plan, as '", $name, " stats' prints them
   tables - - - BITS - - -                          The bits of full tables
 
-MEAN is the weight of all walks over all distances, WORST the walk over the distance of the pair that fares worst, DEP
-acyclic or cycle: whether links wait for each other in a ring. Rows are of shortest and compact, depth-first and tour,
-of tree, and of landmark with paths of at most 150, 200 and 300 percent of the distance.
+MEAN is the weight of all paths, divided by all distances. WORST is this ratio for the pair of nodes where it is
+greatest. DEP is cycle if links can wait for one another in a ring, else acyclic. The plans are shortest and compact
+(depth-first and tour), tree, and landmark with paths of at most 150, 200 and 300 percent of the distance.
 
 Example, for a ring of four nodes:
   $ ", $name, " compare TOPOLOGY
@@ -143,9 +154,9 @@ Example, for a ring of four nodes:
             sim_usage: concat!($name, " sim [OPTIONS] <TOPOLOGY> <SCRIPT>\n       ", $name, " sim [OPTIONS] -"),
             live_usage: concat!($name, " live [OPTIONS] <TOPOLOGY> <SCRIPT>\n       ", $name, " live [OPTIONS] -"),
             check_usage: concat!($name, " check [OPTIONS] <TOPOLOGY> <SCRIPT> <TRACE>\n       ", $name, " check [OPTIONS] -"),
-            sim_files: concat!("'", $name, " sim' takes the files of a topology and of a script, or '-' alone"),
-            live_files: concat!("'", $name, " live' takes the files of a topology and of a script, or '-' alone"),
-            check_files: concat!("'", $name, " check' takes the files of a topology, of a script and of a trace, or '-' alone"),
+            sim_files: concat!("'", $name, " sim' takes a topology file and a script file, or '-' alone"),
+            live_files: concat!("'", $name, " live' takes a topology file and a script file, or '-' alone"),
+            check_files: concat!("'", $name, " check' takes a topology file, a script file and a trace file, or '-' alone"),
         }
     };
 }
@@ -175,7 +186,7 @@ pub fn usage_of(called: Called, sub: Sub) -> &'static str {
     }
 }
 
-/// What stands behind the help of a subcommand.
+/// What follows the help of a subcommand.
 pub fn lines_of(called: Called, sub: Sub) -> &'static str {
     let texts = texts_of(called);
     match sub {
@@ -183,6 +194,7 @@ pub fn lines_of(called: Called, sub: Sub) -> &'static str {
         Sub::Compare => texts.compare,
         Sub::Prefixes => texts.prefixes,
         Sub::Ranges => texts.ranges,
+        Sub::Xdp => texts.xdp,
         Sub::Sim => SCRIPT_LINES,
         Sub::Live => LIVE_LINES,
         Sub::Check => CHECK_LINES,
@@ -190,22 +202,23 @@ pub fn lines_of(called: Called, sub: Sub) -> &'static str {
 }
 
 /// The names of the subcommands, in their order.
-static NAMES: [&str; 10] = [
-    "plan", "walk", "stats", "compare", "draw", "prefixes", "ranges", "sim", "live", "check",
+static NAMES: [&str; 11] = [
+    "plan", "walk", "stats", "compare", "draw", "prefixes", "ranges", "xdp", "sim", "live", "check",
 ];
 
-/// What they do, as help tells it.
-static ABOUTS: [&str; 10] = [
-    "Prints the labels and rows of a topology's nodes",
-    "Prints the walk from one node to another, and the interval by which each node sends on",
-    "Prints the figures of a topology's plan: its starts, its greatest row, its walks",
-    "Prints the figures of a topology's plans of all kinds and numberings, beside full tables",
-    "Prints a drawing of a topology's plan for Graphviz",
-    "Prints the fewest prefixes of labels by which each node sends on, for longest prefix match",
-    "Prints the fewest ranges of labels by which each node sends on, for tables that match ranges",
-    "Plays the lines of a script, and prints what became of its packets",
-    "Plays the lines of a script while each node runs in a thread of its own, and prints what became of its packets",
-    "Checks the rows of a trace against the walks that the script's plans prescribe",
+/// What they do, as help states it.
+static ABOUTS: [&str; 11] = [
+    "Print the label and the intervals of each node",
+    "Print the path from one node to another, with the interval that each node uses",
+    "Print the figures of a plan: its intervals, its greatest row, its paths",
+    "Print the figures of plans of all kinds and numberings, and of full tables",
+    "Print a drawing of a plan, for Graphviz or as SVG",
+    "Print forwarding tables of the fewest label prefixes, for longest prefix match",
+    "Print forwarding tables of the fewest label ranges, for tables that match ranges",
+    "Print the table of a node in lines of 128 bytes, to forward by XDP in Linux",
+    "Run a script step by step, and print what became of its packets",
+    "Run a script with a thread for each node, and print what became of its packets",
+    "Check the rows of a trace against the paths of the script's plans",
 ];
 
 /// The name of a subcommand.
@@ -215,7 +228,7 @@ pub fn name_of(sub: Sub) -> &'static str
     NAMES[sub as usize]
 }
 
-/// What a subcommand does, as help tells it.
+/// What a subcommand does, as help states it.
 pub fn about_of(sub: Sub) -> &'static str {
     ABOUTS[sub as usize]
 }

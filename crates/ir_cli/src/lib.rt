@@ -41,6 +41,9 @@ pub const MAX_THREADS: u16 = 256;
 /// The most landmarks that words ask for.
 pub const MAX_LANDMARKS: u16 = 65_535;
 
+/// The greatest epoch of lines, which a kernel's packet path knows by 16 bits.
+pub const MAX_EPOCH: u16 = 65_535;
+
 /// The least stretch of landmark plans, in percent of the distance, and the greatest, which is that
 /// where the words tell none.
 pub const MIN_STRETCH: u16 = 100;

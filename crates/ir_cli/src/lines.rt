@@ -1,4 +1,4 @@
-//! The lines that tell of a refusal, and of an input that was not read.
+//! The lines that report a refusal, and an input that was not read.
 ghost use Rattle.std.specs.Prelude.{◌≡◌, ◌++◌, IfOk, OnOk, string_bytes};
 ghost use Rattle.ir_cli.specs.Lines.{numbered_line, refused_line, steps_text, too_large_line, unreadable_line};
 ghost use Rattle.ir_cli.specs.Notices.{notice_line};

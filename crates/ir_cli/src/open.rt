@@ -48,7 +48,7 @@ pub fn no_root(graph: &Graph) -> OpenError
     }
 }
 
-/// The order in which the plans of a run are labelled. That of a file is no run's, and told as depth first.
+/// The order in which the plans of a run are labelled. That of a file is no run's, and given as depth first.
 pub fn label_order(numbering: &NumberingChoice) -> LabelOrder
     ensures { result ≡ label_order numbering.now }
 {

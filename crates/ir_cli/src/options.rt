@@ -6,8 +6,8 @@ ghost use Rattle.ir_cli.specs.Taking.{rules_taken};
 
 use crate::words::Sub;
 use crate::{
-    DEFAULT_CAPACITY, DEFAULT_PACKETS, DEFAULT_RESTAMPS, MAX_LANDMARKS, MAX_STRETCH, MAX_THREADS,
-    MIN_STRETCH,
+    DEFAULT_CAPACITY, DEFAULT_PACKETS, DEFAULT_RESTAMPS, MAX_EPOCH, MAX_LANDMARKS, MAX_STRETCH,
+    MAX_THREADS, MIN_STRETCH,
 };
 use ir_core::{MAX_CAPACITY, MAX_PACKETS, MAX_RESTAMPS};
 
@@ -18,6 +18,8 @@ pub enum Choice {
     Kind,
     /// How the plans of a run are numbered.
     Numbering,
+    /// What is printed for a kernel's packet path.
+    Part,
 }
 
 /// What an argument takes.
@@ -31,8 +33,12 @@ pub enum Accepts {
     WordOf(&'static str, Choice),
     /// A number from one to another.
     Number(&'static str, u16, u16),
-    /// The name of a file, which stands by itself.
+    /// The name of a file, a word by itself.
     File(&'static str),
+    /// One of the words of a choice, which stands by itself.
+    PlaceOf(&'static str, Choice),
+    /// A number from one to another, which stands by itself.
+    Place(&'static str, u16, u16),
 }
 
 /// Whether an argument is to be given.
@@ -42,7 +48,7 @@ pub enum Need {
     Free,
     /// It must be.
     Must,
-    /// It may be, and else this word stands for it.
+    /// It may be, and else this word is taken for it.
     Else(&'static str),
 }
 
@@ -50,7 +56,7 @@ pub enum Need {
 #[derive(Clone, Copy)]
 pub struct Taken {
     pub name: &'static str,
-    /// Its letter behind one hyphen.
+    /// Its letter after one hyphen.
     pub letter: Option<char>,
     pub help: &'static str,
     pub takes: Accepts,
@@ -63,6 +69,7 @@ pub struct Choices<'a> {
     pub formats: &'a [&'a str],
     pub kinds: &'a [&'a str],
     pub numberings: &'a [&'a str],
+    pub parts: &'a [&'a str],
 }
 
 /// A row of a table: the name and the letter, what is taken and whether it must be, and what help says of it.
@@ -78,113 +85,120 @@ macro_rules! taken {
     };
 }
 
-// How every subcommand tells what it tells.
+// How every subcommand reports.
 const OUTPUT: Taken = taken!("output", Some('o'), Accepts::Word("FILE"), Need::Free
-    => "The file that the output goes to, whole or not at all; standard output by default");
+    => "Write the output to FILE, whole or not at all (default: standard output)");
 
 const QUIET: Taken = taken!("quiet", None, Accepts::Nothing, Need::Free
-    => "Nothing on standard error: the status alone tells");
+    => "Print nothing on standard error; the exit status is the only report");
 
 const EXPLAIN: Taken = taken!("explain", None, Accepts::Nothing, Need::Free
-    => "Sentences behind the lines of faults, on standard error: where, what and why");
+    => "Explain each fault in a sentence on standard error (default on a terminal)");
 
 const SILENT: Taken = taken!("no-explain", None, Accepts::Nothing, Need::Free
-    => "No such sentences, on a terminal either");
+    => "Do not explain faults, not even on a terminal");
 
-const JSON: Taken = taken!("json", None, Accepts::Nothing, Need::Free => "The output as JSON");
+const JSON: Taken =
+    taken!("json", None, Accepts::Nothing, Need::Free => "Print the output as JSON");
 
 // The topology, and the plan of it.
 const FORMAT: Taken =
     taken!("format", Some('f'), Accepts::WordOf("FORMAT", Choice::Format), Need::Free
-    => "The format of the topology; edgelist by default for a file that ends in .edgelist or .wel, else adjlist");
+    => "Set the format of the topology (default: edgelist for a file that ends in .edgelist or .wel, else adjlist)");
 
 const KIND: Taken =
     taken!("kind", Some('k'), Accepts::WordOf("KIND", Choice::Kind), Need::Else("shortest")
-    => "How the first plan routes");
+    => "Set the kind of the first plan");
 
 const LANDMARKS: Taken =
     taken!("landmarks", None, Accepts::Number("K", 1, MAX_LANDMARKS), Need::Free
-    => "The most landmarks of plans of kind landmark; by default the least K with 4 K K at least the number of nodes");
+    => "Use at most K landmarks in landmark plans (default: half the square root of the number of nodes, rounded up)");
 
 const STRETCH: Taken =
     taken!("stretch", None, Accepts::Number("P", MIN_STRETCH, MAX_STRETCH), Need::Free
-    => "The most percent of the distance that paths of plans of kind landmark weigh; 300 by default");
+    => "Limit the paths of landmark plans to P percent of the distance (default: 300)");
 
 const ROOT: Taken = taken!("root", Some('r'), Accepts::Word("NAME"), Need::Free
-    => "The root of the first plan; the first node by default");
+    => "Set the root of the first plan (default: the first node)");
 
 const ROOTS: Taken = taken!("root", Some('r'), Accepts::Word("NAME"), Need::Free
-    => "The root of the plans; the first node by default");
+    => "Set the root of the plans (default: the first node)");
 
 const NUMBERING: Taken =
     taken!("numbering", Some('n'), Accepts::Word("NUMBERING"), Need::Else("depth-first")
-    => "How nodes are numbered: depth-first, tour (for fewer intervals), or a file with a node a line, in order");
+    => "Number the nodes depth-first, along a tour (often fewer intervals), or as in a file with one node on each line");
 
 const THREADS: Taken = taken!("threads", None, Accepts::Number("T", 1, MAX_THREADS), Need::Free
-    => "The most threads that make rows; as many as suit the processors by default");
+    => "Use at most T threads to make rows (default: as suits the processors)");
 
 const TOPOLOGY: Taken = taken!("topology", None, Accepts::File("TOPOLOGY"), Need::Must
-    => "The file of the topology, or - for standard input");
+    => "Topology file, or - for standard input");
 
 // What is shown of a plan.
 const ORDER: Taken = taken!("order", None, Accepts::Nothing, Need::Free
-    => "The nodes in the order of their labels in place of the rows, as a file for --numbering has them");
+    => "Print only the nodes, in the order of their labels, as --numbering reads them from a file");
 
 const FROM: Taken =
-    taken!("from", None, Accepts::Word("A"), Need::Must => "The node that the walk goes from");
+    taken!("from", None, Accepts::Word("A"), Need::Must => "Start the path at node A");
 
-const TO: Taken =
-    taken!("to", None, Accepts::Word("B"), Need::Must => "The node that the walk goes to");
+const TO: Taken = taken!("to", None, Accepts::Word("B"), Need::Must => "End the path at node B");
 
 const WITH: Taken = taken!("with", None, Accepts::Word("KIND[,ROOT]"), Need::Free
-    => "A second plan over the topology, and the links that wait for each other in both together; its root is by default that of --root, else the first node");
+    => "Also report whether links can wait for one another in a ring if packets of this plan and of a second one travel (default ROOT: that of --root)");
 
 const DRAWN_FROM: Taken = taken!("from", None, Accepts::Word("A"), Need::Free
-    => "The node from which a walk is drawn in bold");
+    => "Draw the path from node A in bold (with --to)");
 
 const DRAWN_TO: Taken =
-    taken!("to", None, Accepts::Word("B"), Need::Free => "The node to which it goes");
+    taken!("to", None, Accepts::Word("B"), Need::Free => "Draw the path to node B in bold (with --from)");
 
 const NODE: Taken = taken!("node", None, Accepts::Word("A"), Need::Free
-    => "A node whose intervals are drawn on the circle of all labels, coloured by port, in place of the topology");
+    => "Draw the intervals of node A on the circle of all labels, coloured by port, instead of the topology");
 
 const SVG: Taken = taken!("svg", None, Accepts::Nothing, Need::Free
-    => "The circle of --node as SVG in place of Graphviz's text");
+    => "Draw the circle of --node as SVG instead of Graphviz text");
 
 const DISJOINT: Taken = taken!("disjoint", None, Accepts::Nothing, Need::Free
-    => "Prefixes of which no two of a node hold one label");
+    => "Print disjoint prefixes: no two of a node hold the same label");
+
+const PART: Taken =
+    taken!("part", None, Accepts::PlaceOf("WORD", Choice::Part), Need::Must => "What is printed");
+
+const EPOCH: Taken = taken!("epoch", None, Accepts::Place("E", 1, MAX_EPOCH), Need::Must
+    => "The epoch of the table");
+
+const LINES_OF: Taken =
+    taken!("node", None, Accepts::Word("A"), Need::Must => "The node whose table it is");
 
 // A run, and its check.
 const RUN_ORDER: Taken =
     taken!("numbering", Some('n'), Accepts::WordOf("NUMBERING", Choice::Numbering), Need::Else("depth-first")
-    => "How each plan's nodes are numbered, from its root; a tour is for fewer intervals");
+    => "Number the nodes of each plan depth-first from its root, or along a tour (often fewer intervals)");
 
 const CAPACITY: Taken =
     taken!("capacity", None, Accepts::Number("C", 1, MAX_CAPACITY as u16), Need::Else(DEFAULT_CAPACITY)
-    => "The capacity of each channel and inbox");
+    => "Set how many packets each channel and inbox holds");
 
 const PACKETS: Taken =
     taken!("packets", None, Accepts::Number("M", 1, MAX_PACKETS as u16), Need::Else(DEFAULT_PACKETS)
-    => "The most packets");
+    => "Set how many packets a run may have");
 
 const RESTAMPS: Taken =
     taken!("restamps", None, Accepts::Number("R", 0, MAX_RESTAMPS as u16), Need::Else(DEFAULT_RESTAMPS)
-    => "The most restamps of a packet; above 0 the trace has its segments");
+    => "Allow each packet R restamps; above 0 the trace lists segments");
 
 const TWO_TEXTS: Taken = taken!("topology", None, Accepts::File("TOPOLOGY"), Need::Must
-    => "The file of the topology, or - for standard input with both texts, cut at the line %%");
+    => "Topology file, or - for standard input with topology and script, separated by a line %%");
 
 const ALL_TEXTS: Taken = taken!("topology", None, Accepts::File("TOPOLOGY"), Need::Must
-    => "The file of the topology, or - for standard input with all three texts, cut at the first two lines %%");
+    => "Topology file, or - for standard input with topology, script and trace, separated by lines %%");
 
-const SCRIPT: Taken =
-    taken!("script", None, Accepts::File("SCRIPT"), Need::Free => "The file of the script");
+const SCRIPT: Taken = taken!("script", None, Accepts::File("SCRIPT"), Need::Free => "Script file");
 
-const TRACE: Taken =
-    taken!("trace", None, Accepts::File("TRACE"), Need::Free => "The file of the trace");
+const TRACE: Taken = taken!("trace", None, Accepts::File("TRACE"), Need::Free => "Trace file");
 
 const WHOLE: Taken = taken!("whole", None, Accepts::Nothing, Need::Free
-    => "Whether rows can be those of a run of the script, too: injects, epochs above them and causes of drops");
+    => "Also check the injects, epochs and causes of drops against the script");
 
 static PLAN: [Taken; 10] = [
     FORMAT, KIND, LANDMARKS, STRETCH, ROOT, NUMBERING, THREADS, TOPOLOGY, ORDER, JSON,
@@ -213,6 +227,10 @@ static RANGES: [Taken; 9] = [
     FORMAT, KIND, LANDMARKS, STRETCH, ROOT, NUMBERING, THREADS, TOPOLOGY, JSON,
 ];
 
+static XDP: [Taken; 11] = [
+    FORMAT, KIND, LANDMARKS, STRETCH, ROOT, PART, EPOCH, NUMBERING, THREADS, TOPOLOGY, LINES_OF,
+];
+
 static RUN: [Taken; 12] = [
     FORMAT, KIND, LANDMARKS, STRETCH, ROOT, RUN_ORDER, CAPACITY, PACKETS, RESTAMPS, TWO_TEXTS,
     SCRIPT, JSON,
@@ -225,14 +243,14 @@ static CHECK: [Taken; 13] = [
 
 static TELLING: [Taken; 4] = [OUTPUT, QUIET, EXPLAIN, SILENT];
 
-/// What every subcommand takes behind its own table.
+/// What every subcommand takes after its own table.
 pub fn telling() -> &'static [Taken]
     ensures { (choices : Choices) → rules_taken choices result.now ≡ telling }
 {
     TELLING.as_slice()
 }
 
-/// The table of what a subcommand takes, before that by which each tells what it tells.
+/// The table of what a subcommand takes, before that by which each reports.
 pub fn taken_by(sub: Sub) -> &'static [Taken]
     ensures { (choices : Choices) → rules_taken choices result.now ++ telling ≡ rules_of choices sub }
 {
@@ -244,6 +262,7 @@ pub fn taken_by(sub: Sub) -> &'static [Taken]
         Sub::Draw => DRAW.as_slice(),
         Sub::Prefixes => PREFIXES.as_slice(),
         Sub::Ranges => RANGES.as_slice(),
+        Sub::Xdp => XDP.as_slice(),
         Sub::Sim | Sub::Live => RUN.as_slice(),
         Sub::Check => CHECK.as_slice(),
     }

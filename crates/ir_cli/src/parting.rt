@@ -5,7 +5,7 @@ ghost use Rattle.ir_cli.specs.Cut.{topology_part, script_part, EndsWithBytes};
 
 use ir_adjlist::scan::before;
 
-/// What stands behind the line at the front, which has so many bytes.
+/// What follows the line at the front, which has so many bytes.
 fn behind_line(text: &[u8], len: usize) -> &[u8]
     ensures { result.now ≡ drop (len + 1) text.now }
 {
@@ -16,7 +16,7 @@ fn behind_line(text: &[u8], len: usize) -> &[u8]
     }
 }
 
-/// The texts before and behind the first line that is exactly `%%`.
+/// The texts before and after the first line that is exactly `%%`.
 pub fn cut(input: &[u8]) -> (&[u8], &[u8])
     ensures topology { lines result.0.now ≡ topology_part (lines input.now) }
     ensures script { lines result.1.now ≡ script_part (lines input.now) }

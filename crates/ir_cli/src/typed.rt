@@ -14,7 +14,7 @@ ghost use Rattle.ir_cli.specs.declared.words.Sub.{Sub};
 use crate::choices::DetourChoice;
 use crate::kinds::KindChoice;
 use crate::words::{Format, NumberingChoice, Second, Sub, format_of_file};
-use crate::{MAX_LANDMARKS, MAX_STRETCH, MAX_THREADS, MIN_STRETCH};
+use crate::{MAX_EPOCH, MAX_LANDMARKS, MAX_STRETCH, MAX_THREADS, MIN_STRETCH};
 use clap::ArgMatches;
 use ir_core::{MAX_CAPACITY, MAX_PACKETS, MAX_RESTAMPS};
 use std::alloc::{AllocError, Global};
@@ -40,7 +40,7 @@ pub fn word_of(
     }
 }
 
-/// Whether a flag stands among the words.
+/// Whether a flag is among the words.
 pub fn is_set(found: &ArgMatches<'_>, name: &str) -> bool
     ensures { result ≡ is_set name.now (rows_of (found_of found.now)) }
 {
@@ -93,6 +93,7 @@ fn sub_of(name: &str) -> Option<Sub>
         "draw" => Some(Sub::Draw),
         "prefixes" => Some(Sub::Prefixes),
         "ranges" => Some(Sub::Ranges),
+        "xdp" => Some(Sub::Xdp),
         "sim" => Some(Sub::Sim),
         "live" => Some(Sub::Live),
         "check" => Some(Sub::Check),
@@ -102,7 +103,8 @@ fn sub_of(name: &str) -> Option<Sub>
 
 /// The kind of a word, if it is that of one.
 fn kind_in(word: &str) -> Option<KindChoice>
-    ensures { MatchOption result ((kind : KindChoice) → IsKindWord kind word.now → ⊥) (λ kind. IsKindWord kind word.now) }
+    ensures { MatchOption result ((kind : KindChoice) → IsKindWord kind word.now → ⊥)
+        (λ kind. IsKindWord kind word.now) }
 {
     match word {
         "tree" => Some(KindChoice::Tree),
@@ -128,7 +130,7 @@ fn detour_in(found: &ArgMatches<'_>) -> Option<DetourChoice>
     })
 }
 
-/// The word of a second plan as its kind and the name of its root, if that stands behind a comma.
+/// The word of a second plan as its kind and the name of its root, if that comes after a comma.
 fn parts_of_second(word: &str) -> (&str, Option<&str>)
     ensures kind { result.0.now ≡ second_kind word.now }
     ensures root { option_map (λ name. name.now) result.1 ≡ second_root word.now }
@@ -179,7 +181,7 @@ pub fn numbering_of(alloc: Global, found: &ArgMatches<'_>) -> Result<NumberingCh
     }
 }
 
-/// Puts the file of a name behind others, if it is given.
+/// Puts the file of a name after others, if it is given.
 fn push_file(
     alloc: Global,
     files: &mut Vec<String>,
@@ -217,6 +219,7 @@ pub struct Chosen {
     pub packets: usize,
     pub restamps: u8,
     pub threads: Option<usize>,
+    pub epoch: u16,
 }
 
 /// What is chosen or counted by the words of a subcommand of this name, if each of them is a name or a number that is
@@ -234,5 +237,6 @@ pub fn choose(name: &str, found: &ArgMatches<'_>) -> Option<Chosen>
         packets: number_or(found, "packets", 1, MAX_PACKETS, 4096)?,
         restamps: number_or(found, "restamps", 0, MAX_RESTAMPS, 0)? as u8,
         threads: number_in(found, "threads", 1, MAX_THREADS as usize)?,
+        epoch: number_or(found, "epoch", 1, MAX_EPOCH as usize, 1)? as u16,
     })
 }

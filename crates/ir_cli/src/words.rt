@@ -33,6 +33,7 @@ pub enum Sub {
     Draw,
     Prefixes,
     Ranges,
+    Xdp,
     Sim,
     Live,
     Check,
@@ -89,8 +90,11 @@ pub struct Words {
     /// The names of a walk's ends: both for `walk`, both or none for `draw`, none beside `node`.
     pub from: Option<String>,
     pub to: Option<String>,
-    /// The name of the node whose intervals are drawn in place of the topology, for `draw`.
+    /// The name of the node whose intervals are drawn in place of the topology, for `draw`, or whose lines are printed,
+    /// for `xdp`.
     pub node: Option<String>,
+    /// The epoch of those lines, from 1 to 65,535.
+    pub epoch: u16,
     /// Whether they are drawn as SVG, beside `node` alone.
     pub svg: bool,
     /// The plan beside the first, for `stats`; its root is by default that of the first.
@@ -101,9 +105,9 @@ pub struct Words {
     pub order_alone: bool,
     /// Whether rows are also judged beside the script and each other, for `check`.
     pub whole: bool,
-    /// Whether sentences for people are to stand behind the lines of faults.
+    /// Whether sentences for people are to follow the lines of faults.
     pub explain: bool,
-    /// Whether the output is JSON; never for `draw`.
+    /// Whether the output is JSON; never for `draw` and `xdp`.
     pub json: bool,
     /// The name of the file that the output goes to; standard output where there is none.
     pub output: Option<String>,
@@ -215,8 +219,8 @@ pub(crate) fn format_of_file(name: &str) -> Format
     }
 }
 
-/// What stands for words that the parser took and that are not read, of which there are none.
-static UNREAD: &str = "error: the words are not read\n";
+/// The text for words that the parser takes and that are not read, of which there are none.
+static UNREAD: &str = "error: these arguments are not understood\n";
 
 /// The refusal by a text for standard error, or want of memory where the text was not made.
 fn usage(text: Result<String, AllocError>) -> WordsError
@@ -270,6 +274,7 @@ fn words_of(alloc: Global, all: Chosen, found: &ArgMatches<'_>) -> Result<Words,
         from,
         to,
         node,
+        epoch: all.epoch,
         svg: is_set(found, "svg"),
         second,
         disjoint: is_set(found, "disjoint"),
@@ -327,7 +332,7 @@ fn words_met(alloc: Global, called: Called, found: &ArgMatches<'_>) -> Result<Wo
     }
 }
 
-/// The program's name and the words behind it.
+/// The program's name and the words after it.
 fn all_words<'a>(
     alloc: Global,
     called: Called,
@@ -343,12 +348,15 @@ fn all_words<'a>(
     Ok(all)
 }
 
-/// What the words behind the program's name ask for. Words that are refused give the text for
+/// What the words after the program's name ask for. Words that are refused give the text for
 /// standard error, `--help` and `--version` that for standard output. Besides what the parser
-/// refuses: a number of files that the subcommand does not take, and `-` beside another file; a
-/// numbering other than depth first of a tree or by landmarks; a file's numbering beside a root, on
-/// standard input, or of a run; a detour where no landmark plan is made; a second plan of no kind; a
-/// drawn walk with one end, a node beside one, SVG of none.
+/// refuses, these are refused:
+/// - a number of files that the subcommand does not take, and `-` beside another file;
+/// - a numbering other than depth first of a tree or by landmarks;
+/// - a file's numbering beside a root, on standard input, or of a run;
+/// - a detour where no landmark plan is made;
+/// - a second plan of no kind;
+/// - a drawn walk with one end, a node beside a walk, and SVG without a node.
 pub fn read_words_as(alloc: Global, called: Called, words: &[String]) -> Result<Words, WordsError>
     ensures kind { IfOk result (λ words. FitsItsKind words) }
     ensures taken { IfOk result (λ words. AreTaken words) }

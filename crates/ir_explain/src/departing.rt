@@ -61,19 +61,16 @@ fn push_stray(
         walk.hop(place, hop),
     );
     let before = walk.hop(place, hop.saturating_sub(1));
-    write!(
-        text,
-        "node {number} of the hops under epoch {epoch} is '{is}'"
-    )?;
+    write!(text, "node {number} of the hops in epoch {epoch} is '{is}'")?;
     match next {
         Some(node) => {
             let to = walk.name(node);
             write!(
                 text,
-                ", and the plan of epoch {epoch} goes from '{before}' to '{to}'"
+                ", but the plan of epoch {epoch} forwards from '{before}' to '{to}'"
             )
         }
-        None => write!(text, ": they go on behind '{before}', the destination"),
+        None => write!(text, ": they continue after '{before}', the destination"),
     }
 }
 
@@ -86,12 +83,12 @@ fn push_unsaid(text: &mut String, walk: &TracedWalk<'_>, next: Option<u16>) -> P
             let (epoch, to) = (walk.epoch(place), walk.name(node));
             write!(
                 text,
-                "the plan of epoch {epoch} goes on from '{end}' to '{to}', which the fate does not say"
+                "the plan of epoch {epoch} forwards from '{end}' to '{to}', but the fate says otherwise"
             )
         }
         None => write!(
             text,
-            "'{end}' is the destination: no plan goes on from there"
+            "'{end}' is the destination: no plan forwards from there"
         ),
     }
 }
@@ -103,14 +100,14 @@ fn push_found(text: &mut String, walk: &TracedWalk<'_>, found: Departure) -> Pus
             let (epoch, before) = (walk.epoch(segment), walk.epoch(segment.saturating_sub(1)));
             write!(
                 text,
-                "epoch {epoch} stands behind epoch {before}: epochs rise"
+                "epoch {epoch} comes after epoch {before}: epochs must rise"
             )
         }
         Departure::Start { segment, at } => {
-            let (epoch, first, stood) = (walk.epoch(segment), walk.hop(segment, 0), walk.name(at));
+            let (epoch, first, was) = (walk.epoch(segment), walk.hop(segment, 0), walk.name(at));
             write!(
                 text,
-                "the hops under epoch {epoch} begin at '{first}', and the packet stood at '{stood}'"
+                "the hops in epoch {epoch} begin at '{first}', but the packet was at '{was}'"
             )
         }
         Departure::Hop { segment, hop, next } => push_stray(text, walk, segment, hop, next),

@@ -20,9 +20,9 @@ use std::alloc::{AllocError, Global};
 fn unread(trouble: Trouble) -> &'static str {
     match trouble {
         Trouble::Missing => "no such file",
-        Trouble::Forbidden => "no leave to read it",
-        Trouble::Directory => "it is a directory",
-        Trouble::Unknown | Trouble::Failed => "it could not be read",
+        Trouble::Forbidden => "permission denied",
+        Trouble::Directory => "is a directory",
+        Trouble::Unknown | Trouble::Failed => "could not be read",
     }
 }
 
@@ -32,15 +32,15 @@ fn push_unwritten(text: &mut String, words: &Words) -> Pushed {
         Some(file) if file.as_str() != "-" => begin(text, file.as_str())?,
         _ => text.push_str("route: standard output: ")?,
     }
-    text.push_str("it could not be written")
+    text.push_str("could not be written")
 }
 
-/// Says what was not looked at where there is no finding.
+/// Says what was not checked where there is no finding.
 fn unseen(words: &Words) -> &'static str {
     if words.whole {
-        "injects, epochs and causes of drops are there, as far as script and rows tell; missing rows were not looked at"
+        "the script allows every row's inject, epoch and cause of drop; missing rows are not checked"
     } else {
-        "hops and weights are those of the plans; injects, causes of drops and missing rows were not looked at (--whole looks at the first two)"
+        "hops and weights follow the plans; injects, causes of drops and missing rows are not checked (--whole checks the first two)"
     }
 }
 
@@ -62,7 +62,7 @@ fn push_noticed(text: &mut String, run: &RunTexts<'_>, notice: Notice) -> Pushed
             begin(text, texts.of(source).file)?;
             write!(
                 text,
-                "more than {MAX_INPUT_BYTES} bytes, the most of an input"
+                "larger than {MAX_INPUT_BYTES} bytes, the limit of an input"
             )
         }
         Notice::Topology(error) => push_topology(text, run, error),
@@ -73,8 +73,8 @@ fn push_noticed(text: &mut String, run: &RunTexts<'_>, notice: Notice) -> Pushed
         Notice::Beside(finding) => push_beside(text, run, finding),
         Notice::Sound(_) => push_on(text, texts.trace.file, unseen(run.words)),
         Notice::Unwritable => push_unwritten(text, run.words),
-        Notice::NoThread => text.push_str("route: no further thread was started"),
-        Notice::NoMemory => text.push_str("route: memory was refused"),
+        Notice::NoThread => text.push_str("route: a thread could not be started"),
+        Notice::NoMemory => text.push_str("route: the system refused to allocate memory"),
     }
 }
 
@@ -182,7 +182,7 @@ pub fn explanation(
     explanation_kept(alloc, words, given, outcome, true)
 }
 
-/// The same, told too whether the output came to its place.
+/// The same, where it is known whether the output came to its place.
 pub fn explanation_kept(
     alloc: Global,
     words: &Words,

@@ -9,17 +9,17 @@ use crate::texts::{GivenText, RunTexts};
 use ir_trace::{Departure, Finding, FindingKind};
 use ir_whole::{WholeFinding, WholeKind};
 
-static MEMORY: &str = "memory was refused while the trace was checked";
+static MEMORY: &str = "out of memory while checking the trace";
 
 static UNFOLLOWED: &str =
-    "the hops leave the walk that the plan of their epoch prescribes, or stop where the fate does not say so";
+    "the hops leave the path of their epoch's plan, or end where the fate does not explain it";
 
-/// Whether rows have their epochs before their hops, as those of `trace 2`, and not behind their ids.
+/// Whether rows have their epochs before their hops, as those of `trace 2`, and not after their ids.
 fn has_segments(trace: &GivenText<'_>) -> bool {
     trace.bytes.starts_with(b"trace 2\n".as_slice())
 }
 
-/// The place of the source among the words of a row; destination and weight stand behind it.
+/// The place of the source among the words of a row; destination and weight follow it.
 fn source_place(trace: &GivenText<'_>) -> usize
     ensures { result ≤ 2 }
 {
@@ -31,7 +31,7 @@ fn push_unknown_node(text: &mut String, run: &RunTexts<'_>, words: &[&[u8]]) -> 
     let place = source_place(&run.texts.trace);
     let end = unknown_word(run.graph, words, &[place, place + 1]);
     if end.is_empty() {
-        return text.push_str("a hop of it is no node, or no link leads there from the hop before");
+        return text.push_str("a hop is not a node, or has no link from the hop before it");
     }
     push_no_node(text, run, end)
 }
@@ -49,17 +49,17 @@ pub fn push_beside(text: &mut String, run: &RunTexts<'_>, finding: WholeFinding)
     match finding.kind {
         WholeKind::NeverInjected => write!(
             text,
-            "no inject in {script} can be its packet's, beside those of the rows before it"
+            "no inject in {script} can be this packet's, given the rows before it"
         ),
         WholeKind::NotYetInstalled => write!(
             text,
-            "its first epoch is beyond those that installs in {script} above its inject can have made"
+            "the installs before its inject in {script} cannot have made its first epoch"
         ),
         WholeKind::NeverDown => write!(text, "no line of {script} takes that link down"),
         WholeKind::NeverRetired => write!(text, "no line of {script} retires its epoch"),
         WholeKind::NeverFull => write!(
             text,
-            "fewer packets than --capacity ({capacity}) can have been in that channel"
+            "that channel can never have held --capacity ({capacity}) packets"
         ),
         WholeKind::NoMemory => text.push_str(MEMORY),
     }
@@ -75,10 +75,11 @@ fn push_meaning(
 ) -> Pushed {
     let trace = &run.texts.trace;
     let said = match finding.kind {
-        FindingKind::NotTrace => "a trace begins with the line 'trace 1' or 'trace 2'",
-        FindingKind::BadRow => "this is no row of a trace, or it lacks its line feed",
+        FindingKind::NotTrace => "a trace must begin with the line 'trace 1' or 'trace 2'",
+        FindingKind::BadRow => "this is not a row of a trace, or it does not end in a line feed",
         FindingKind::UnknownNode => return push_unknown_node(text, run, words),
-        FindingKind::UnknownEpoch if has_segments(trace) => "the run has not all of its epochs",
+        FindingKind::UnknownEpoch if has_segments(trace) =>
+            "the run does not have all epochs of this row",
         FindingKind::UnknownEpoch => {
             return write!(text, "the run has no epoch {}", Quoted(word_at(words, 1)));
         }
@@ -87,16 +88,16 @@ fn push_meaning(
             _ => UNFOLLOWED,
         },
         FindingKind::NotAtDestination => {
-            "it says delivered, and the walk goes on behind its last hop"
+            "the fate is 'delivered', but the path continues after the last hop"
         }
         FindingKind::BadWeight => {
             let weight = Quoted(word_at(words, source_place(trace) + 2));
-            return write!(text, "{weight} is not the weight of its hops");
+            return write!(text, "{weight} is not the weight of the hops");
         }
         FindingKind::Repeated => {
             let id = word_at(words, 0);
             let line = line_with(run.alloc, trace.bytes, id, 1)?.saturating_add(trace.above);
-            return write!(text, "the id {} stands on line {line} already", Quoted(id));
+            return write!(text, "id {} is already used on line {line}", Quoted(id));
         }
         FindingKind::NoMemory => MEMORY,
     };

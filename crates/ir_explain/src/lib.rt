@@ -1,4 +1,4 @@
-//! Sentences for people behind the lines of faults: which file, line and word, and what was wanted.
+//! Sentences for people after the lines of faults: which file, line and word, and what was wanted.
 //!
 //! `explanation` takes what a run came to as values (`RunOutcome` of `ir_cli`), beside the texts of
 //! the inputs, and writes a line `route: ..` for each. Each match over a kind of fault is total, so

@@ -1,4 +1,4 @@
-//! The limits and defaults that documents tell, once more as numbers: each is a clause of a function
+//! The limits and defaults that documents state, once more as numbers: each is a clause of a function
 //! with an empty body. A constant that is changed alone is refused here.
 ghost use Rattle.std.specs.Prelude.{◌≡◌, codes};
 ghost use Rattle.ir_model.specs.declared.TheConstants as graphs;

@@ -46,7 +46,7 @@ pub fn first_word(line: &[u8]) -> &[u8] {
     }
 }
 
-/// The first line of a text behind so many that begins with a word, counted from 1; 0 where there is none.
+/// The first line of a text after so many that begins with a word, counted from 1; 0 where there is none.
 pub fn line_with(
     alloc: Global,
     text: &[u8],

@@ -9,22 +9,20 @@ use std::alloc::{AllocError, Global};
 /// The most bytes at the front of a text in which a tag is looked for.
 const MOST_FRONT: usize = 4_096;
 
-static ARROWS: &str =
-    "'->' is read as a name (a map of routers, as Rocketfuel's .cch? it is not read)";
+static ARROWS: &str = "'->' is read as a node name (Rocketfuel .cch maps are not supported)";
 
-static QUOTES: &str =
-    "quotes are read as part of a name, and a blank ends it: 'New York' is two names, New_York one";
+static QUOTES: &str = "quotes do not join words: 'New York' is read as two names, New_York as one";
 
 static WEIGHTS: &str =
-    "each line has three words, the last a number (an edge list? try --format edgelist)";
+    "each line has three words and ends in a number (is it an edge list? try --format edgelist)";
 
-static TUPLES: &str = "a list of tuples, which blanks cut";
+static TUPLES: &str = "a list of tuples that are split at spaces";
 
 static BRACES: &str = "an edge list with attributes in braces";
 
 static MULTILINE: &str = "a multiline adjacency list";
 
-/// Documents that are converted: what stands at the front, behind blanks, what further in, and the format.
+/// Documents that are converted: what they begin with, after blanks, what follows further in, and the format.
 static DOCUMENTS: [(&str, &str, &str); 13] = [
     ("%%MatrixMarket", "", "MatrixMarket"),
     ("?SNDlib", "", "SNDlib"),
@@ -100,7 +98,7 @@ fn push_likeness(text: &mut String, file: &str, name: &str, word: Option<&str>) 
             let file = FileName(if file == "-" { "FILE" } else { file });
             write!(
                 text,
-                "this looks like {name}; python3 -m bentzolu convert {file}{word} makes an edge list of it"
+                "this looks like {name}; 'python3 -m bentzolu convert {file}{word}' makes an edge list of it"
             )
         }
         None => text.push_str(name),

@@ -30,7 +30,7 @@ fn push_missing(text: &mut String, run: &RunTexts<'_>) -> Pushed {
     let nodes = named.len();
     write!(
         text,
-        "'{name}' is not named: each of the {nodes} nodes is to stand on a line"
+        "'{name}' is missing: each of the {nodes} nodes needs a line"
     )
 }
 
@@ -43,18 +43,18 @@ fn push_order_fault(
 ) -> Pushed {
     let word = word_at(words, 0);
     match fault {
-        OrderFaultKind::BadByte => push_bad_byte(text, words, "names are"),
+        OrderFaultKind::BadByte => push_bad_byte(text, words, "names"),
         OrderFaultKind::BadRow => {
             push_count(text, words.len())?;
-            text.push_str("; an order has the name of one node on a line")
+            text.push_str("; a line of a numbering is the name of one node")
         }
         OrderFaultKind::UnknownNode => push_no_node(text, run, word),
         OrderFaultKind::Twice => {
             let first = line_with(run.alloc, run.texts.numbering.bytes, word, 0)?;
-            write!(text, "{} stands on line {first} already", Quoted(word))
+            write!(text, "{} is already on line {first}", Quoted(word))
         }
         OrderFaultKind::Missing => push_missing(text, run),
-        OrderFaultKind::NoMemory => text.push_str("memory was refused while the order was read"),
+        OrderFaultKind::NoMemory => text.push_str("out of memory while reading the numbering"),
     }
 }
 

@@ -34,9 +34,9 @@ fn unknown_option<'a>(graph: &Graph, words: &'a Words) -> (&'static str, &'a str
 /// Why the topology has no node.
 fn empty(run: &RunTexts<'_>) -> &'static str {
     match run.words.format {
-        _ if run.texts.topology.bytes.is_empty() => "no nodes: it is empty",
+        _ if run.texts.topology.bytes.is_empty() => "no nodes: the text is empty",
         Format::AdjList => "no nodes: each line is blank or a comment",
-        Format::EdgeList => "no nodes: no line names two",
+        Format::EdgeList => "no nodes: no line names two nodes",
     }
 }
 
@@ -118,7 +118,7 @@ fn push_disconnected(text: &mut String, run: &RunTexts<'_>) -> Pushed {
     let plural = if largest == 1 { "" } else { "s" };
     write!(
         text,
-        "'{name}' has no path to '{outside}': {parts} parts, the largest has {largest} node{plural}"
+        "'{name}' has no path to '{outside}': the network has {parts} parts, the largest of {largest} node{plural}"
     )
 }
 
@@ -139,7 +139,7 @@ fn push_too_large(text: &mut String, graph: &Graph) -> Pushed {
     };
     write!(
         text,
-        "{count} {what}; where packets travel there are at most {most}"
+        "{count} {what}; networks where packets travel have at most {most}"
     )
 }
 
@@ -153,10 +153,10 @@ pub fn push_opening(text: &mut String, run: &RunTexts<'_>, error: OpenError) -> 
         OpenError::Empty => text.push_str(empty(run)),
         OpenError::Disconnected => push_disconnected(text, run),
         OpenError::TooLarge => push_too_large(text, run.graph),
-        OpenError::NoMemory => text.push_str("memory was refused while the topology was opened"),
+        OpenError::NoMemory => text.push_str("out of memory while opening the topology"),
         OpenError::TooManyReaders => {
-            text.push_str("the board has no place for a reader of each node")
+            text.push_str("the board has too few places for a reader of each node")
         }
-        OpenError::Used => text.push_str("a fresh cell of the registry refused its plan"),
+        OpenError::Used => text.push_str("a new cell of the registry refused its plan"),
     }
 }

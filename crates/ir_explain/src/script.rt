@@ -9,7 +9,7 @@ use ir_graph::Graph;
 use ir_script::{ScriptError, ScriptFault};
 use std::alloc::Global;
 
-/// The first words of the lines of a live run's script, and behind them those of a simulation alone.
+/// The first words of the lines of a live run's script, and after them those of a simulation alone.
 static COMMANDS: [&str; 10] = [
     "inject", "drain", "down", "up", "install", "retire", "learn", "take", "read", "act",
 ];
@@ -20,7 +20,7 @@ const LIVE_COMMANDS: usize = 6;
 /// The kinds of plans.
 static KINDS: [&str; 4] = ["tree", "shortest", "compact", "landmark"];
 
-static NO_KIND: &str = " is no kind of plan: tree, shortest, compact or landmark is wanted";
+static NO_KIND: &str = " is not a kind of plan: use tree, shortest, compact or landmark";
 
 /// How the line of a command looks; nothing where the word is none.
 fn form_of(command: &str) -> &'static str {
@@ -46,9 +46,9 @@ fn push_unknown(
     names: &[&str],
     before: &str,
     word: &[u8],
-    behind: &str,
+    after: &str,
 ) -> Pushed {
-    write!(text, "{before}{}{behind}", Quoted(word))?;
+    write!(text, "{before}{}{after}", Quoted(word))?;
     push_near(text, nearest_of(alloc, names, word)?)
 }
 
@@ -77,7 +77,7 @@ fn push_bad_command(text: &mut String, run: &RunTexts<'_>, words: &[&[u8]]) -> P
         return push_unknown(text, run.alloc, names, "unknown command ", command, "");
     }
     if is_live && matches!(name, "learn" | "take" | "read" | "act") {
-        return write!(text, "'{name}' is a command of 'route sim' alone");
+        return write!(text, "'{name}' is a command of 'sim' only");
     }
     if name == "install" && words.len() == 3 {
         let (names, kind) = (KINDS.as_slice(), word_at(words, 1));
@@ -123,13 +123,13 @@ fn push_script_fault(
 ) -> Pushed {
     let command = text_of(word_at(words, 0));
     match fault {
-        ScriptFault::BadByte => push_bad_byte(text, words, "scripts are"),
+        ScriptFault::BadByte => push_bad_byte(text, words, "scripts"),
         ScriptFault::BadCommand => push_bad_command(text, run, words),
         ScriptFault::BadNumber => {
             let word = Quoted(word_at(words, if command == "read" { 2 } else { 1 }));
             write!(
                 text,
-                "{word} is no number: a whole number from 0 to 65535, of at most five digits, is wanted"
+                "{word} is not a whole number from 0 to 65535 (at most five digits)"
             )
         }
         ScriptFault::UnknownNode => {
@@ -141,7 +141,7 @@ fn push_script_fault(
             let other = Quoted(word_at(words, if command == "take" { 3 } else { 2 }));
             write!(text, "no link between {one} and {other}")
         }
-        ScriptFault::NoMemory => text.push_str("memory was refused while the script was read"),
+        ScriptFault::NoMemory => text.push_str("out of memory while reading the script"),
     }
 }
 

@@ -63,7 +63,7 @@ fn count_of(word: &[u8]) -> usize {
     usize::from(text.parse::<u16>().unwrap_or(0))
 }
 
-/// Whether a further line may stand in a multiline list behind what was seen.
+/// Whether a further line may follow in a multiline list what was seen.
 fn goes_on(seen: Seen, words: &[&[u8]]) -> bool {
     let second = word_at(words, 1);
     if seen.left > 0 {

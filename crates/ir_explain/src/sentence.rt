@@ -9,7 +9,7 @@ use ir_adjlist::scan::all_plain;
 use std::alloc::{AllocError, Global};
 use std::fmt;
 
-/// What writing behind a text comes to: refused for want of memory alone.
+/// What adding to a text comes to: refused for want of memory alone.
 pub type Pushed = Result<(), AllocError>;
 
 /// A text in quotes, other bytes than printable ASCII as `\xNN`; two points stand for what is cut.
@@ -90,7 +90,7 @@ pub fn begin_at(text: &mut String, part: &GivenText<'_>, line: usize) -> Pushed 
     write!(text, "route: {file}:{line}: ")
 }
 
-/// Begins a sentence on a line of a text, and answers the words that stand there.
+/// Begins a sentence on a line of a text, and answers its words.
 pub fn begin_line<'a>(
     alloc: Global,
     text: &mut String,
@@ -133,11 +133,11 @@ fn strange_byte(word: &[u8]) -> u8 {
     0
 }
 
-/// Says which byte of a line may not stand there: the first that is not printable ASCII.
+/// Says which byte of a line is not allowed: the first that is not printable ASCII.
 pub fn push_bad_byte(text: &mut String, words: &[&[u8]], wanted: &str) -> Pushed {
     let word = strange_word(words);
     if word.starts_with(b"\xEF\xBB\xBF") {
-        return text.push_str("a byte order mark stands before the text: save it without one");
+        return text.push_str("the text begins with a byte order mark: save it without one");
     }
     let byte = strange_byte(word);
     if byte == 0 || word.starts_with(b"\xFF\xFE") || word.starts_with(b"\xFE\xFF") {
@@ -145,7 +145,7 @@ pub fn push_bad_byte(text: &mut String, words: &[&[u8]], wanted: &str) -> Pushed
     }
     write!(
         text,
-        "byte 0x{byte:02X} in {}: {wanted} of printable ASCII",
+        "byte 0x{byte:02X} in {}: {wanted} must be printable ASCII",
         Quoted(word)
     )
 }

@@ -13,7 +13,7 @@ pub enum Trouble {
     Unknown,
     /// There is no such file.
     Missing,
-    /// There is no leave to read it.
+    /// The permission to read it is denied.
     Forbidden,
     /// It is a directory.
     Directory,
@@ -95,8 +95,8 @@ pub fn texts_of<'a>(words: &'a Words, given: &[Given<'a>]) -> GivenTexts<'a> {
             (topology, script, whole(given, 2, "-"))
         }
         Sub::Check if words.is_one_input() => {
-            let (topology, behind) = halves(first);
-            let (script, trace) = halves(behind);
+            let (topology, rest) = halves(first);
+            let (script, trace) = halves(rest);
             (topology, script, trace)
         }
         _ => (

@@ -21,27 +21,24 @@ fn push_long_name(text: &mut String, words: &[&[u8]]) -> Pushed {
     let bytes = long_name(words);
     write!(
         text,
-        "a name of {bytes} bytes; at most {MAX_NAME_BYTES} are taken"
+        "a name has {bytes} bytes; the limit is {MAX_NAME_BYTES}"
     )
 }
 
 /// Says that a line of an edge list has another number of words.
 fn push_bad_row(text: &mut String, words: &[&[u8]]) -> Pushed {
     push_count(text, words.len())?;
-    text.push_str("; an edge list has NODE NODE WEIGHT on a line")?;
+    text.push_str("; a line of an edge list is NODE NODE WEIGHT")?;
     text.push_str(if word_at(words, 2).starts_with(b"{") {
-        " (attributes in braces are not read: write_weighted_edgelist of NetworkX writes none)"
+        " (attributes in braces are not supported: NetworkX's write_weighted_edgelist writes none)"
     } else {
-        " (an adjacency list? try --format adjlist)"
+        " (is it an adjacency list? try --format adjlist)"
     })
 }
 
 /// Says that a topology has more of something than it may have.
 fn push_too_many(text: &mut String, most: usize, what: &str) -> Pushed {
-    write!(
-        text,
-        "a topology has at most {most} {what}, and here is one more"
-    )
+    write!(text, "too many {what}: a topology has at most {most}")
 }
 
 /// Says what is wrong with a line of a topology.
@@ -49,18 +46,18 @@ pub fn push_topology(text: &mut String, run: &RunTexts<'_>, error: TextError) ->
     let line = begin_line(run.alloc, text, &run.texts.topology, error.line)?;
     let words = line.as_slice();
     match error.kind {
-        Fault::BadByte => push_bad_byte(text, words, "names are"),
+        Fault::BadByte => push_bad_byte(text, words, "names"),
         Fault::BadName => push_long_name(text, words),
         Fault::BadRow => push_bad_row(text, words),
         Fault::BadWeight => {
             let word = Quoted(word_at(words, 2));
             write!(
                 text,
-                "{word} is no weight: a whole number from 1 to {MAX_WEIGHT} is wanted"
+                "{word} is not a weight: use a whole number from 1 to {MAX_WEIGHT}"
             )
         }
         Fault::TooManyNodes => push_too_many(text, MAX_NODES, "nodes"),
         Fault::TooManyEdges => push_too_many(text, MAX_EDGES, "edges"),
-        Fault::NoMemory => text.push_str("memory was refused while the topology was read"),
+        Fault::NoMemory => text.push_str("out of memory while reading the topology"),
     }
 }

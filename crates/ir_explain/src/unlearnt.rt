@@ -6,22 +6,22 @@ use crate::texts::GivenText;
 use std::alloc::Global;
 
 static UNLEARNT: &str =
-    "no 'learn' stands between this inject and the install above it: sim stamps a packet with the greatest epoch that was learnt, live learns each install by itself\n";
+    "no 'learn' comes between this inject and the install above it: sim stamps a packet with the greatest epoch that was learnt (live learns each install by itself)\n";
 
-/// Says so where a packet of a simulation that was played is injected behind an install with no `learn` between: of the
+/// Says so where a packet of a simulation that was played is injected after an install with no `learn` between: of the
 /// first such line.
 pub fn push_unlearnt(alloc: Global, text: &mut String, script: &GivenText<'_>) -> Pushed {
-    let mut is_behind = false;
+    let mut is_unlearnt = false;
     for (place, line) in lines_of(alloc, script.bytes, script.bytes.len())?
         .iter()
         .enumerate()
     {
         let word = first_word(line);
-        if is_behind && word == b"inject".as_slice() {
+        if is_unlearnt && word == b"inject".as_slice() {
             begin_at(text, script, place + 1)?;
             return text.push_str(UNLEARNT);
         }
-        is_behind = word == b"install".as_slice() || (is_behind && word != b"learn".as_slice());
+        is_unlearnt = word == b"install".as_slice() || (is_unlearnt && word != b"learn".as_slice());
     }
     Ok(())
 }

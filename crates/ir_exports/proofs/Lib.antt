@@ -8,3 +8,4 @@ pub mod RangeTexts
 pub mod SameLines
 pub mod NodeTexts
 pub mod Written
+pub mod NodeLines

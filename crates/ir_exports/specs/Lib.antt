@@ -3,6 +3,7 @@ pub mod Tables
 pub mod PrefixesText
 pub mod Sent
 pub mod RangesText
+pub mod LinesText
 pub mod OrderText
 pub mod Ports
 pub mod Names

@@ -7,9 +7,9 @@ ghost use Rattle.ir_trace.specs.Written.{name_at};
 ghost use Rattle.ir_exports.specs.{PrefixesText.{AgreeByLines, goal_text}, Tables.AreTablesOf};
 ghost use Rattle.ir_exports.specs.Sent.{FrontsKeepToWalks, GoAllTheWay, LabelsGoAllTheWay, PartsKeepToWalks};
 
-/// Where each node has only the first ones of its lines, whatever number something is sent to and from whichever node,
-/// the nodes that it goes through are the first ones of the prescribed walk to the node with that label; for a number
-/// beyond the labels to the node with the last one.
+/// If every node has only the first ones of its lines, forwarding still follows a first part of the prescribed walk.
+/// That is so for any number and any first node. The walk goes to the node of that label, or of the last label for a
+/// number beyond the labels.
 pub fn beginnings_of_lines_keep_to_walks()
     ensures { (plan : Plan) (bits : ℕ) (tables : List (List TableLine)) → IsPlan plan
         → AreTablesOf false plan bits tables → FrontsKeepToWalks plan bits tables }
@@ -41,6 +41,7 @@ pub fn text_is_determined_by_lines()
 
 /// No neighbour's name, whatever it is, is the word for no neighbour.
 pub fn neighbour_is_not_none()
-    ensures { (nodes : List Name) (topology : Topology) (u p : ℕ) → is_name (name_at nodes (node_by topology u p)) ≡ true
+    ensures { (nodes : List Name) (topology : Topology) (u p : ℕ)
+        → is_name (name_at nodes (node_by topology u p)) ≡ true
         → goal_text nodes topology u (Some p) ≢ goal_text nodes topology u None }
 {}

@@ -1,10 +1,11 @@
 //! What other programs read of a plan: the forwarding tables of its nodes and where what is sent by
-//! them goes, their ranges of labels, the order of the labels, and the circle of labels with the
-//! intervals of a node.
+//! them goes, their ranges of labels, the lines of a node's row, the order of the labels, and the
+//! circle of labels with the intervals of a node.
 #![tactic(auto)]
 
 mod circle;
 mod laws;
+mod node_lines;
 mod order;
 mod prefixes;
 mod ranges;
@@ -16,6 +17,7 @@ pub use laws::{
     beginnings_of_lines_keep_to_walks, disjoint_lines_keep_to_walks, lines_go_all_the_way,
     text_is_determined_by_lines,
 };
+pub use node_lines::lines_text;
 pub use order::order_text;
 pub use ranges::{ranges_of, ranges_text};
 pub use table::table_of;

@@ -1,4 +1,5 @@
-//! Plans whose rows a crew makes: by depth-first numbers, by those of a tour, and over a given order. What the rows are, `tests/program` shows of texts of plans.
+//! Plans whose rows a crew makes: by depth-first numbers, by those of a tour, and over a given order. What the rows
+//! are, `tests/program` shows of texts of plans.
 
 ghost use Rattle.std.specs.Prelude.{◌≢◌, ◌<◌};
 ghost use Rattle.ir_model.specs.{Topology.node_count, declared.Kind.TheVariants.Tree};

@@ -28,9 +28,21 @@ fn errors_in_words(rt: HostRuntime) {
         tells(alloc, &TableError::Empty, "Empty")
             && tells(alloc, &NumberError::NoNode, "NoNode")
             && tells(alloc, &CompileError::BadRow, each)
-            && tells(alloc, &PlanError::NoMemory, "out of memory")
+            && tells(alloc, &CompileError::NoMemory, "out of memory")
             && tells(alloc, &OpenError::Disconnected, "Disconnected")
             && tells(alloc, &Refused::HandEmpty, "HandEmpty")
+    );
+}
+
+#[test]
+fn refusals_of_a_plan_in_words(rt: HostRuntime) {
+    let alloc = rt.alloc();
+    let cut = "some node has no walk to some node";
+    assert!(rt;
+        tells(alloc, &PlanError::NoNode, "the root is no node")
+            && tells(alloc, &PlanError::Empty, "the topology has no node")
+            && tells(alloc, &PlanError::Disconnected, cut)
+            && tells(alloc, &PlanError::NoMemory, "out of memory")
     );
 }
 

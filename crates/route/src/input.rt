@@ -81,8 +81,8 @@ fn keep(kept: &mut Option<Vec<u8>>, bytes: &[u8])
 /// A call that reads the origin of an input.
 fn read_origin<F: Read, S: Read>(origin: &mut Origin<F, S>, room: &mut [u8]) -> io::Result<usize>
     ensures bound { ReadsAtMost result room.new }
-    ensures bytes { ReadConsumes (left_of F.remaining S.remaining origin.old) (left_of F.remaining S.remaining origin.new)
-        result room.new }
+    ensures bytes { ReadConsumes (left_of F.remaining S.remaining origin.old)
+        (left_of F.remaining S.remaining origin.new) result room.new }
     ensures missing { OnOk result (IsThere origin.old) }
 {
     match origin {

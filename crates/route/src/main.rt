@@ -3,7 +3,7 @@
 //! a print; `route plan` prints the labels and rows of a topology's nodes, `route walk` a walk of that plan, `route
 //! stats` its figures, `route draw` a drawing of it, `route prefixes` its forwarding tables, and `route ranges` its
 //! ranges of labels. With no words it does as `route sim -`, with both texts from standard input, and where that is a
-//! terminal it prints its help. Where standard error is a terminal, sentences for people stand behind the lines of
+//! terminal it prints its help. Where standard error is a terminal, sentences for people follow the lines of
 //! faults, and a plan that takes longer than a second says there how far it is. A program that is called `bentzolu`
 //! calls itself so.
 #![tactic(auto)]
@@ -42,7 +42,7 @@ use std::thread::Threads;
 use std::{env, io};
 use terminal::{are_sentences_wanted, tell};
 
-/// How the program was called: by which name and with which words behind it. Threads are started by a runtime.
+/// How the program was called: by which name and with which words after it. Threads are started by a runtime.
 #[derive(Drop)]
 struct Call<'a, T> {
     rt: &'a HostRuntime,
@@ -56,7 +56,7 @@ fn words(rt: &HostRuntime) -> io::Result<Vec<String>> {
     Ok(env::args(rt)?.collect(rt.alloc())?)
 }
 
-/// The words behind the program's name.
+/// The words after the program's name.
 fn behind_the_name(words: &[String]) -> &[String]
     ensures { result.now ≡ drop 1 words.now }
 {
@@ -69,7 +69,7 @@ fn words_for_none(rt: &HostRuntime, name: &str) -> Result<Vec<String>, AllocErro
 {
     if rt.stderr().is_terminal() {
         let told = format!(in rt.alloc();
-            "{name}: topology and script are read from standard input, with the line %% between them; see {name} --help\n"
+            "{name}: reading a topology and a script from standard input, with a line %% between them; see {name} --help\n"
         )?;
         tell(rt, told.as_str());
     }
@@ -119,7 +119,7 @@ fn sentences(
     explanation_kept(alloc, words, given.as_slice(), outcome, is_kept)
 }
 
-/// Prints sentences behind the faults of a run, by the program's name, where there is memory for them.
+/// Prints sentences after the faults of a run, by the program's name, where there is memory for them.
 fn explain(rt: &HostRuntime, name: &str, text: &str) {
     if let Ok(said) = said_by(rt.alloc(), name, text) {
         tell(rt, said.as_str());
@@ -217,7 +217,7 @@ fn run_live<T: Threads + Wait + Sync>(
     end_run(call, words, inputs, &outcome, &mut output, &mut faults)
 }
 
-/// What the words behind the program's name ask for, with sentences where standard error is a terminal too.
+/// What the words after the program's name ask for, with sentences where standard error is a terminal too.
 fn asked(rt: &HostRuntime, called: Called, given: &[String]) -> Result<Words, WordsError>
     ensures kind { IfOk result (λ words. FitsItsKind words) }
     ensures asks { IfOk result (λ words. IsAskedBy called given.now words) }
@@ -249,7 +249,7 @@ fn run_words<T: Threads + Wait + Sync>(call: &Call<'_, T>, words: &Words) -> Res
     }
 }
 
-/// Does what the words behind the program's name ask for.
+/// Does what the words after the program's name ask for.
 fn follow_words<T: Threads + Wait + Sync>(call: &Call<'_, T>) -> u8 {
     let rt = call.rt;
     match asked(rt, call.called, call.given) {
@@ -299,7 +299,7 @@ fn follow_none<T: Threads + Wait + Sync>(
     Ok(2)
 }
 
-/// Does what the words behind the program's name ask for, if there are any.
+/// Does what the words after the program's name ask for, if there are any.
 fn follow_given<T: Threads + Wait + Sync>(
     rt: &HostRuntime,
     threads: &T,
@@ -326,7 +326,7 @@ fn main(rt: HostRuntime) -> ExitCode {
         Ok(words) => follow_given(&rt, &rt, called, behind_the_name(words.as_slice())),
         Err(error) if error.kind() == io::ErrorKind::OutOfMemory => out_of_memory(&rt),
         Err(_) => {
-            let _told = eprintln!(rt; "{}: the words are no text", called.name());
+            let _told = eprintln!(rt; "{}: an argument is not valid UTF-8", called.name());
             2
         }
     };

@@ -219,7 +219,8 @@ impl<R: Files, S: Write + Drop> Write for Output<'_, R, S> {
         ensures bound { WritesAtMost result bytes.now }
         ensures bytes { WriteAppends (held_by R.File.contents S.contents self.old.sink)
             (held_by R.File.contents S.contents self.new.sink) result bytes.now }
-        ensures opened { OnOk result (OpensFor (held_by R.File.contents S.contents) self.old.sink self.new.sink result bytes.now) }
+        ensures opened { OnOk result (OpensFor (held_by R.File.contents S.contents) self.old.sink self.new.sink
+            result bytes.now) }
     {
         self.open()?;
         write_to(&mut self.sink, bytes)

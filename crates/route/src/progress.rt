@@ -98,7 +98,7 @@ impl Progress<'_> {
         if self.is_counted && all >= MANY {
             let name = self.name;
             self.show(format!(in self.rt.alloc();
-                "\r{name}: {all} rows are made; their walks are counted"
+                "\r{name}: {all} rows are made; their paths are measured"
             ));
         }
     }

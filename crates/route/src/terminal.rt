@@ -7,7 +7,7 @@ pub fn tell(rt: &HostRuntime, text: &str) {
     let _told = rt.eprint(text);
 }
 
-/// Whether `--no-explain` stands among the words behind the program's name: before a word `--`, behind which all are
+/// Whether `--no-explain` is among the words after the program's name: before a word `--`, after which all are
 /// files.
 fn are_sentences_forbidden(words: &[String]) -> bool
     ensures { result ≡ is_given (codes "--no-explain") words.now }
@@ -18,8 +18,8 @@ fn are_sentences_forbidden(words: &[String]) -> bool
         .any(|word| word.as_str() == "--no-explain")
 }
 
-/// Whether sentences stand behind the lines of faults: where they are asked for, and where standard error is a terminal
-/// unless the words behind the program's name forbid them.
+/// Whether sentences follow the lines of faults: where they are asked for, and where standard error is a terminal
+/// unless the words after the program's name forbid them.
 pub fn are_sentences_wanted(are_asked: bool, is_terminal: bool, words: &[String]) -> bool
     ensures { result ≡ are_wanted are_asked is_terminal words.now }
 {

@@ -32,6 +32,9 @@ returns-in-Prefixes c = λ choices. has_rules choices c.as_slice-in-Prefixes.ens
 pub returns-in-Ranges : goal.returns-in-Ranges
 returns-in-Ranges c = λ choices. has_rules choices c.as_slice-in-Ranges.ensures c.in-Ranges.is refl
 
+pub returns-in-Xdp : goal.returns-in-Xdp
+returns-in-Xdp c = λ choices. has_rules choices c.as_slice-in-Xdp.ensures c.in-Xdp.is refl
+
 pub returns-in-Sim : goal.returns-in-Sim
 returns-in-Sim c = λ choices. ⊎_elim (λ sim. has_rules choices c.as_slice-in-Sim.ensures sim refl) (λ live. has_rules choices c.as_slice-in-Sim.ensures live refl) c.in-Sim.is
 

@@ -11,6 +11,7 @@ returns-in_default-clause-refused c = fails_wider _ _ _ _ c.usage.result (λ _ w
   packets = words.packets;
   restamps = words.restamps;
   threads = words.threads;
+  epoch = words.epoch;
 }) (record {
   sub = means.sub;
   format = means.format;
@@ -20,4 +21,5 @@ returns-in_default-clause-refused c = fails_wider _ _ _ _ c.usage.result (λ _ w
   packets = means.packets;
   restamps = means.restamps;
   threads = means.threads;
+  epoch = means.epoch;
 })) (λ never. never) c.usage.ensures

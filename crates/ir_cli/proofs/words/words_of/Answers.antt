@@ -26,6 +26,7 @@ returns c = λ name are.
       from = c.in_ok-from.ensures.from;
       to = c.in_ok-from.ensures.to;
       node = c.in_ok-from.ensures.node;
+      epoch = are.epoch;
       svg = c.is_set.ensures;
       second = c.in_ok-second.ensures;
       disjoint = c.is_set-2.ensures;
