@@ -34,16 +34,17 @@
 static const char words[] =
     "bentzolu-xdp [--pins DIR] [--object FILE] WORD ..\n"
     "  up MODE NODE NUMBER HOST OWN [NEIGHBOUR DEVICE MAC]..   MODE is xdp, generic or tc; ports count from 0\n"
-    "  install EPOCH [ROW] < LINES     adds the table of an epoch, and asks the kernel for each label first\n"
-    "  check EPOCH [ROW] < LINES       asks the kernel for each label of an epoch\n"
-    "  stamp EPOCH                     the node's own packets get this epoch from now on\n"
-    "  drained EPOCH [DIR]..           waits until nothing of an epoch is under way, by the counters of these nodes\n"
-    "  retire EPOCH                    removes the table of an epoch\n"
-    "  counts                          what became of packets, by epoch\n"
-    "  show                            the node, its ports and its epochs\n"
-    "  down                            removes the plane\n"
-    "  watch STOP DIR..                events of nodes as they are, until the file STOP is there and none come\n"
-    "  replace EPOCH < LINES           another table for an epoch that is there: packets get lost, and mixed\n"
+    "  install EPOCH [ROW] < LINES     add the table of an epoch, after every label is checked in the kernel\n"
+    "  check EPOCH [ROW] < LINES       check every label of an epoch in the kernel\n"
+    "  lines EPOCH                     print the lines of an epoch's table, as they are in the kernel\n"
+    "  stamp EPOCH                     stamp the node's own packets with this epoch from now on\n"
+    "  drained EPOCH [DIR]..           wait until no packet of an epoch is under way, by the counters of these nodes\n"
+    "  retire EPOCH                    remove the table of an epoch\n"
+    "  counts                          print what became of packets, by epoch\n"
+    "  show                            print the node, its ports and its epochs\n"
+    "  down                            remove the plane\n"
+    "  watch STOP DIR..                print events of nodes as they come, until the file STOP exists and no more come\n"
+    "  replace EPOCH < LINES           replace the table of an epoch: packets are lost and mixed\n"
     "LINES are those of `xdp table`, as text or as bytes. ROW is a file: LABELS OWN, then a line START PORT for each start;\n"
     "without it the kernel is asked for what the lowest lines say. DIR is " PINS " by default, in a bpffs.\n";
 
@@ -86,9 +87,9 @@ static _Noreturn void misused(void) {
 /* What to say where the kernel refuses a call of bpf(2). */
 static _Noreturn void refuse_by(int fault, const char *what) {
     if (fault == EPERM || fault == EACCES)
-        refuse("cannot run here: %s: %s; it wants root, or CAP_BPF and CAP_NET_ADMIN", what, strerror(fault));
+        refuse("cannot run here: %s: %s; this needs root, or CAP_SYS_ADMIN and CAP_NET_ADMIN", what, strerror(fault));
     if (fault == ENOSYS || fault == EINVAL || fault == EOPNOTSUPP)
-        refuse("cannot run here: %s: %s; it wants Linux 5.10 or later with BPF", what, strerror(fault));
+        refuse("cannot run here: %s: %s; this needs Linux 5.10 or later with BPF", what, strerror(fault));
     refuse("%s: %s", what, strerror(fault));
 }
 
@@ -137,7 +138,7 @@ static uint32_t number(const char *word, uint32_t least, uint32_t most, const ch
     errno = 0;
     unsigned long found = strtoul(word, &end, 10);
     if (*word < '0' || *word > '9' || *end || errno || found < least || found > most)
-        refuse("%s is %u to %u, and not %s", what, least, most, word);
+        refuse("%s is from %u to %u, not %s", what, least, most, word);
     return found;
 }
 
@@ -161,7 +162,7 @@ static struct who who_at(int map, uint32_t key) {
 static void mac_of(const char *text, uint8_t *to) {
     int end = 0;
     if (sscanf(text, "%2hhx:%2hhx:%2hhx:%2hhx:%2hhx:%2hhx%n", to, to + 1, to + 2, to + 3, to + 4, to + 5, &end) != 6 || text[end])
-        refuse("%s is no hardware address: give it as 02:00:00:00:00:01", text);
+        refuse("%s is not a hardware address: give one such as 02:00:00:00:00:01", text);
 }
 
 static uint32_t device_of(const char *name) {
@@ -169,7 +170,7 @@ static uint32_t device_of(const char *name) {
     if (!found)
         refuse("there is no device %s here: give one that `ip link` lists", name);
     if (found == 1)
-        refuse("%s is the loopback device, by which the plane is asked: give another one", name);
+        refuse("%s is the loopback device, which the plane uses for its checks: give another one", name);
     return found;
 }
 
@@ -192,7 +193,7 @@ static void whole_sums(const char *device) {
         struct ifreq asked = {.ifr_data = (void *)&off};
         strncpy(asked.ifr_name, device, IFNAMSIZ - 1);
         if (ioctl(sock, SIOCETHTOOL, &asked) && i == 0)
-            refuse("%s: its sums cannot be made whole (tx-checksumming off): %s", device, strerror(errno));
+            refuse("%s: checksum offloading cannot be turned off (tx-checksumming): %s", device, strerror(errno));
     }
     close(sock);
 }
@@ -211,9 +212,9 @@ static void attach(struct bpf_object *object, uint32_t ifindex, const char *devi
         fault = bpf_xdp_attach(ifindex, program, flags | XDP_FLAGS_UPDATE_IF_NOEXIST, NULL);
     }
     if (fault == -EBUSY || fault == -EEXIST)
-        refuse("%s has a program already: take it off, or give another device", device);
+        refuse("%s already has a program: remove it, or give another device", device);
     if (fault == -EOPNOTSUPP && mode == NATIVE)
-        refuse("the driver of %s does no XDP: take the mode generic, or tc", device);
+        refuse("the driver of %s does not support XDP: use the mode generic or tc", device);
     if (fault)
         refuse_by(-fault, device);
 }
@@ -265,13 +266,13 @@ static struct bpf_object *loaded(const char *path, uint32_t degree) {
         refuse("there is no object %s: build it by plane/make, or give --object FILE", path);
     struct bpf_object *object = bpf_object__open_file(path, NULL);
     if (!object)
-        refuse("%s is no object of the plane: build it by plane/make", path);
+        refuse("%s is not an object of the plane: build it by plane/make", path);
     static const char *const sized[] = {"ports", "devs"};
     for (int i = 0; i < 2; i++)
         bpf_map__set_max_entries(bpf_object__find_map_by_name(object, sized[i]), degree ? degree : 1);
     int fault = bpf_object__load(object);
     if (fault)
-        refuse_by(-fault, "the kernel does not take the programs");
+        refuse_by(-fault, "the kernel refused the programs");
     return object;
 }
 
@@ -280,12 +281,12 @@ static int map_of(struct bpf_object *object, const char *name) { return bpf_obje
 static void pin_all(struct bpf_object *object, int who) {
     if (mkdir(pins, 0700)) {
         if (errno == EEXIST)
-            refuse("%s is there already: a plane is up there, and `down` removes it", pins);
-        refuse("%s cannot be made: %s; mount a bpffs there, by mount -t bpf bpf /sys/fs/bpf", pins, strerror(errno));
+            refuse("%s exists: a plane is up there, and `down` removes it", pins);
+        refuse("%s cannot be made: %s; mount a bpffs: mount -t bpf bpf /sys/fs/bpf", pins, strerror(errno));
     }
     is_half_up = 1;
     if (bpf_obj_pin(who, pin(pins, "who")))
-        refuse("%s is in no bpffs: mount one, by mount -t bpf bpf /sys/fs/bpf", pins);
+        refuse("%s is not in a bpffs: mount one by mount -t bpf bpf /sys/fs/bpf", pins);
     struct bpf_map *map;
     bpf_object__for_each_map(map, object) if (bpf_map__pin(map, pin(pins, bpf_map__name(map))))
         refuse_by(errno, pin(pins, bpf_map__name(map)));
@@ -296,7 +297,7 @@ static void pin_all(struct bpf_object *object, int who) {
 static void add_who(int map, uint32_t key, const char *name, const char *device, enum mode mode) {
     struct who it = {.ifindex = device_of(device), .mode = mode};
     if (!*name || strlen(name) > NAME_BYTES)
-        refuse("a name has 1 to %d bytes, and not %s", NAME_BYTES, name);
+        refuse("a name has 1 to %d bytes; this one does not: %s", NAME_BYTES, name);
     strcpy(it.name, name);
     strcpy(it.device, device);
     for (uint32_t other = 0; other < key; other++) {
@@ -316,9 +317,9 @@ static void up(const char *object_path, int count, char **given) {
     while (mode < MODES && strcmp(modes[mode], given[0]))
         mode++;
     if (mode == MODES)
-        refuse("a plane's mode is xdp, generic or tc, and not %s", given[0]);
+        refuse("the mode of a plane is xdp, generic or tc, not %s", given[0]);
     if (degree > PORTS)
-        refuse("a node has at most %d ports, and not %u", PORTS, degree);
+        refuse("a node has at most %d ports, not %u", PORTS, degree);
     struct node node = {0, number(given[2], 0, 65535, "a node's number")};
     struct bpf_object *object = loaded(object_path, degree);
     int who = bpf_map_create(BPF_MAP_TYPE_ARRAY, "who", 4, sizeof(struct who), NEIGHBOURS + degree, NULL);
@@ -369,7 +370,7 @@ static void read_lines(struct table *table) {
     size = read_all(stdin, data, most);
     if (size >= 128 && !data[2] && !data[3]) {
         if (size % sizeof(struct line) || size / sizeof(struct line) > MOST_LINES)
-            refuse("a table has 1 to %d lines of %zu bytes, and not %u bytes in all", MOST_LINES, sizeof(struct line), size);
+            refuse("a table has 1 to %d lines of %zu bytes, not %u bytes in all", MOST_LINES, sizeof(struct line), size);
         memcpy(table->line, data, size);
         table->lines = size / sizeof(struct line);
         return;
@@ -393,11 +394,11 @@ static void add_start(struct table *table, uint32_t start, uint32_t port, uint32
     if (table->count == STARTS)
         refuse("a row has at most %d starts", STARTS);
     if (start >= table->labels)
-        refuse("the start %u is none of the labels 0 to %u", start, table->labels - 1);
+        refuse("the start %u is not a label from 0 to %u", start, table->labels - 1);
     if (table->count && start <= table->word[table->count - 1] >> 16)
         refuse("the starts are out of order: %u comes after %u", start, table->word[table->count - 1] >> 16);
     if (port >= ports)
-        refuse("the start %u leads to port %u, and this node has %u ports: give the table of this node, for the ports that it has", start,
+        refuse("the start %u leads to port %u, but this node has %u ports: give the table of this node and its ports", start,
                port, ports);
     table->word[table->count++] = start << 16 | port;
 }
@@ -414,7 +415,7 @@ static void refuse_ports_gone(const struct table *table) {
         is_seen[key] = 1;
         struct who it = who_at(who, NEIGHBOURS + key);
         if (bpf_map_lookup_elem(map, &key, &port) || !if_indextoname(port.ifindex, name) || port.ifindex != it.ifindex)
-            refuse("the device %s of port %u is gone: take the plane down, and up again with the devices that are there", it.device, key);
+            refuse("the device %s of port %u is gone: take the plane down, and bring it up with the present devices", it.device, key);
     }
     close(map);
     close(who);
@@ -427,14 +428,14 @@ static void read_row_of_lines(struct table *table, uint32_t epoch, uint32_t port
     table->labels = head[HEAD_LABELS], table->own = head[HEAD_OWN];
     table->word = room(STARTS, 4);
     if (head[HEAD_EPOCH] != epoch)
-        refuse("the table is of epoch %u, and not of epoch %u", head[HEAD_EPOCH], epoch);
+        refuse("the table is of epoch %u, not of epoch %u", head[HEAD_EPOCH], epoch);
     if (table->labels < 1 || table->labels > LABELS || table->own >= table->labels)
-        refuse("a table has 1 to %d labels, its own one among them, and not %u and %u", LABELS, table->labels, table->own);
+        refuse("a table has 1 to %d labels, and its own label is one of them: not %u labels and own label %u", LABELS, table->labels, table->own);
     if (depth > 2 && depth != BYTES)
-        refuse("a table's depth is 0, 1, 2 or %d, and not %u", BYTES, depth);
+        refuse("the depth of a table is 0, 1, 2 or %d, not %u", BYTES, depth);
     if (depth == BYTES) {
         if (table->lines != 1 + (table->labels + 127) / 128)
-            refuse("a table of %u labels as bytes has %u lines, and not %u", table->labels, 1 + (table->labels + 127) / 128, table->lines);
+            refuse("a table of %u labels as bytes has %u lines, not %u", table->labels, 1 + (table->labels + 127) / 128, table->lines);
         const uint8_t *bytes = (const uint8_t *)table->line[1].word;
         for (uint32_t i = 0; i < table->labels; i++)
             if (i == 0 || bytes[i] != bytes[i - 1])
@@ -442,13 +443,13 @@ static void read_row_of_lines(struct table *table, uint32_t epoch, uint32_t port
         return;
     }
     if ((depth == 0) != (table->lines == 1) || first > table->lines)
-        refuse("a table of depth %u has another number of lines than %u", depth, table->lines);
+        refuse("a table of depth %u cannot have %u lines", depth, table->lines);
     const uint32_t *leaf = depth ? table->line[first].word : head + HEAD_WORDS;
     uint32_t most = depth ? (table->lines - first) * WORDS : HEAD_WORDS;
     for (uint32_t i = 0; i < most && leaf[i] != NO_WORD; i++)
         add_start(table, leaf[i] >> 16, leaf[i] & 0xFFFF, ports);
     if (table->count && table->word[0] >> 16)
-        refuse("the first start of a table is 0, and not %u", table->word[0] >> 16);
+        refuse("the first start of a table is 0, not %u", table->word[0] >> 16);
 }
 
 /* A row that is given beside its lines: the kernel is then asked for what the row says. */
@@ -458,15 +459,15 @@ static void read_row(struct table *table, const char *path, uint32_t ports) {
     if (!file)
         refuse("%s: %s", path, strerror(errno));
     if (fscanf(file, "%u %u", &labels, &own) != 2)
-        refuse("%s has no row: its first line is LABELS OWN", path);
+        refuse("%s is not a row: its first line must be LABELS OWN", path);
     if (labels != table->labels || own != table->own)
-        refuse("the table is of the label %u of %u, and the row of the label %u of %u: one of them is of another node", table->own,
+        refuse("the table is for label %u of %u, but the row is for label %u of %u: one of them belongs to another node", table->own,
                table->labels, own, labels);
     table->count = 0;
     while (fscanf(file, "%u %u", &start, &port) == 2)
         add_start(table, start, port, ports);
     if (!feof(file))
-        refuse("%s has no row: each line after the first one is START PORT", path);
+        refuse("%s is not a row: each line after the first must be START PORT", path);
     fclose(file);
 }
 
@@ -554,8 +555,10 @@ static int epoch_in(int epochs, uint32_t slot, int *handle) {
     if (bpf_map_lookup_elem(epochs, &slot, &id))
         return -1;
     int map = bpf_map_get_fd_by_id(id);
-    if (map < 0 || bpf_map_lookup_elem(map, &zero, &line))
+    if (map < 0 && errno == ENOENT) /* it went meanwhile */
         return -1;
+    if (map < 0 || bpf_map_lookup_elem(map, &zero, &line))
+        refuse_by(errno, "the table of a slot");
     if (handle)
         *handle = map;
     else
@@ -576,7 +579,7 @@ static void install(uint32_t epoch, const char *row) {
     uint32_t slot = epoch % EPOCHS;
     int epochs = pinned("epochs"), there = epoch_in(epochs, slot, NULL), map;
     if (there == (int)epoch)
-        refuse("epoch %u is installed already: retire it first", epoch);
+        refuse("epoch %u is already installed: retire it first", epoch);
     if (there >= 0)
         refuse("the slot of epoch %u is taken by epoch %d: retire that one first", epoch, there);
     clear_counts(slot);
@@ -585,7 +588,7 @@ static void install(uint32_t epoch, const char *row) {
     int wrong = wrong_label(&table, epoch);
     if (wrong >= 0) {
         bpf_map_delete_elem(epochs, &slot);
-        refuse("the label %d does not go as the row of epoch %u says: the table is taken out again", wrong, epoch);
+        refuse("the label %d is not forwarded as the row of epoch %u says: the table was removed again", wrong, epoch);
     }
 }
 
@@ -596,7 +599,7 @@ static void check(uint32_t epoch, const char *row) {
         refuse("epoch %u is not installed", epoch);
     int wrong = wrong_label(&table, epoch);
     if (wrong >= 0)
-        refuse("the label %d does not go as the row of epoch %u says", wrong, epoch);
+        refuse("the label %d is not forwarded as the row of epoch %u says", wrong, epoch);
 }
 
 static void replace(uint32_t epoch) {
@@ -615,15 +618,31 @@ static struct node node_of(int map) {
     return found;
 }
 
+static void lines_of(uint32_t epoch) {
+    int table;
+    if (epoch_in(pinned("epochs"), epoch % EPOCHS, &table) != (int)epoch)
+        refuse("epoch %u is not installed", epoch);
+    for (uint32_t at = 0, count = entries_of(table); at < count; at++) {
+        struct line line;
+        if (bpf_map_lookup_elem(table, &at, &line))
+            refuse_by(errno, "a table");
+        for (int i = 0; i < WORDS; i++)
+            printf("%08x%c", line.word[i], i < WORDS - 1 ? ' ' : '\n');
+    }
+}
+
 static void stamp(uint32_t epoch) {
     int epochs = pinned("epochs"), map = pinned("node"), table;
-    if (epoch_in(epochs, epoch % EPOCHS, &table) != (int)epoch)
-        refuse("epoch %u is not installed: install it at all nodes before one stamps it", epoch);
     struct node node = node_of(map);
+    uint32_t kept = epoch ? epoch : node.stamp; /* whose table is put once more */
+    int is_there = epoch_in(epochs, kept % EPOCHS, &table) == (int)kept;
+    if (epoch && !is_there)
+        refuse("epoch %u is not installed: install it at all nodes before one stamps it", epoch);
     node.stamp = epoch;
     put(map, 0, &node, "the node");
     /* This call returns when no program runs any more that has read the old stamp. */
-    put(epochs, epoch % EPOCHS, &table, "the slot of the epoch");
+    if (is_there)
+        put(epochs, kept % EPOCHS, &table, "the slot of the epoch");
 }
 
 static void retire(uint32_t epoch) {
@@ -632,7 +651,7 @@ static void retire(uint32_t epoch) {
     if (epoch_in(epochs, slot, NULL) != (int)epoch)
         refuse("epoch %u is not installed", epoch);
     if (node_of(pinned("node")).stamp == epoch)
-        refuse("the node's own packets get epoch %u: stamp another one first", epoch);
+        refuse("the node still stamps its packets with epoch %u: stamp another one first", epoch);
     if (bpf_map_delete_elem(epochs, &slot))
         refuse_by(errno, "the slot of the epoch");
 }
@@ -702,7 +721,7 @@ static void drained(uint32_t epoch, int count, char **folders) {
             return;
         }
         if (now - began > patience)
-            refuse("epoch %u is not empty: %lu stamped, %lu delivered; wait, and ask again", epoch, sums[STAMPED], sums[DELIVERED]);
+            refuse("epoch %u is not empty: %lu stamped, %lu delivered; wait, and try again", epoch, sums[STAMPED], sums[DELIVERED]);
         usleep(5000);
     }
 }
@@ -758,7 +777,7 @@ static void watch(const char *stop, int count, char **folders) {
             sum += lost[cpu];
     }
     if (sum)
-        refuse("%lu events were lost: send fewer packets a second", sum);
+        refuse("%lu events were lost: send fewer packets per second", sum);
 }
 
 int main(int count, char **given) {
@@ -792,18 +811,19 @@ int main(int count, char **given) {
     } else if (count >= 1) {
         const char *row = count == 2 ? given[1] : NULL;
         int is_table = count <= 2 && (!strcmp(word, "install") || !strcmp(word, "check"));
-        int is_one = count == 1 && (!strcmp(word, "stamp") || !strcmp(word, "retire") || !strcmp(word, "replace"));
+        int is_stamp = count == 1 && !strcmp(word, "stamp"), is_lines = count == 1 && !strcmp(word, "lines");
+        int is_one = is_stamp || is_lines || (count == 1 && (!strcmp(word, "retire") || !strcmp(word, "replace")));
         int is_drained = !strcmp(word, "drained");
         if (!is_table && !is_one && !is_drained)
             misused();
-        uint32_t epoch = number(given[0], 1, GREATEST, "an epoch");
+        uint32_t epoch = number(given[0], !is_stamp, GREATEST, "an epoch");
         char *usual[] = {(char *)pins};
         if (is_drained)
             count > 1 ? drained(epoch, count - 1, given + 1) : drained(epoch, 1, usual);
         else if (is_table)
             *word == 'i' ? install(epoch, row) : check(epoch, row);
         else
-            *word == 's' ? stamp(epoch) : !strcmp(word, "retire") ? retire(epoch) : replace(epoch);
+            is_stamp ? stamp(epoch) : is_lines ? lines_of(epoch) : !strcmp(word, "retire") ? retire(epoch) : replace(epoch);
     } else {
         misused();
     }
