@@ -17,7 +17,7 @@ import sys
 import tempfile
 
 sys.dont_write_bytecode = True
-import networks
+import networks  # noqa: E402
 
 KINDS = ["shortest", "tree", "compact"]
 NUMBERINGS = ["depth-first", "tour", "order"]  # the last is a file

@@ -21,7 +21,7 @@ import sys
 import tempfile
 
 sys.dont_write_bytecode = True
-import networks
+import networks  # noqa: E402
 
 PROGRAM = os.environ.get("BENTZOLU_ROUTE", pathlib.Path(__file__).parent / "../crates/route/out/route")
 PACKETS = 3  # of each epoch

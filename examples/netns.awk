@@ -9,7 +9,7 @@
 #   retire   prefixes  takes an epoch away: its routes, the shortest prefixes first, then the own address
 #   down     topology  takes away the namespaces and what stamps wrote
 # Variables: epoch, 1 to 65535; format, edgelist for a weighted edge list; only, a node: its commands alone
-# (install, stamp, retire); guard=1, an `unreachable` of metric 4096 behind each route (install and retire alike),
+# (install, stamp, retire); guard=1, an `unreachable` of metric 4096 after each route (install and retire alike),
 # so that where a link is set down what was to go over it is dropped; fixed=1, neighbours known by hand (up); base,
 # the front of all addresses, fd00 if left out; tag, the front of all namespaces' names, bz- if left out. A label's
 # address is BASE:EPOCH::LABEL. The K-th node of the text is fe80::K on each of its links; a port is named after its

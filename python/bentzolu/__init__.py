@@ -9,7 +9,7 @@ The calls are `plan`, `compile_many`, `walk`, `stats`, `prefixes`, `ranges`, `dr
 `help(bentzolu.Options)` shows what all of them take. `sweep` makes the plan under each of many failures, `Timeline`
 plays networks that change in time, and `figures` draws.
 """
-from . import figures
+from . import figures as figures  # noqa: F401
 from .calls import check, compile_many, draw, live, names_of, plan, prefixes, ranges, simulate, stats, walk
 from .diffs import NodeDiff, PlanDiff, diff, patched
 from .errors import (

@@ -8,42 +8,44 @@ from typing import Any, Callable, Sequence
 from . import __version__, commands, fleet_words, inside, lab, program, sweep_words, xdp_words
 from .convert import READERS
 from .errors import BentzoluError
+from .options import add_detour
 
 
 def add_source(parser: argparse.ArgumentParser) -> None:
     """The words that say which network is read, and how."""
-    parser.add_argument("file", metavar="FILE", help="the file of the network")
+    parser.add_argument("file", metavar="FILE", help="network file, or - for standard input")
     formats = sorted(READERS)
-    said = f"the file's format, else its text and its name tell: {', '.join(formats)}"
+    said = f"format of the file (default: found from its text and its name): {', '.join(formats)}"
     parser.add_argument("--from", dest="format", metavar="FORMAT", choices=formats, help=said)
-    parser.add_argument("--largest", action="store_true", help="of several parts take the largest; else they are refused")
-    parser.add_argument("--weight", metavar="NAME", help="the attribute that is the weight ('weight' where there is one), or 1 for 1 everywhere")
-    parser.add_argument("-o", "--output", metavar="OUT", help="the file of the output; standard output by default")
+    parser.add_argument("--largest", action="store_true", help="take the largest part of a network of several parts, which is otherwise refused")
+    parser.add_argument("--weight", metavar="NAME", help="edge attribute to take as the weight (default: 'weight' where there is one), or 1 for 1 everywhere")
+    parser.add_argument("-o", "--output", metavar="OUT", help="write to this file (default: standard output)")
 
 
 def add_convert(parser: argparse.ArgumentParser) -> None:
     add_source(parser)
-    parser.add_argument("--names", metavar="TABLE", help="a file for the table of names: a line NAME, tab, node as JSON for each node")
+    parser.add_argument("--names", metavar="TABLE", help="write the table of names to this file: for each node a line NAME, tab, node as JSON")
     parser.set_defaults(act=commands.convert)
 
 
 def add_shown(parser: argparse.ArgumentParser) -> None:
     add_source(parser)
-    parser.add_argument("--kind", default="shortest", choices=("shortest", "compact", "tree"), help="how packets are routed; by default shortest")
-    parser.add_argument("--root", metavar="NAME", help="the node from which labels are numbered, by its name in route")
-    parser.add_argument("--numbering", metavar="HOW", help="depth-first, tour, or a file with an order of the nodes")
+    parser.add_argument("--kind", default="shortest", choices=("shortest", "compact", "tree", "landmark"), help="kind of the plan (default: shortest)")
+    parser.add_argument("--root", metavar="NAME", help="node from which labels are numbered, by its name in the program (default: the first node)")
+    parser.add_argument("--numbering", metavar="HOW", help="depth-first (the default), tour, or a file that lists the nodes in order")
+    add_detour(parser)
     parser.set_defaults(act=commands.shown)
 
 
 # The subcommands: the name, what it does, and what adds its words to a parser. `act` of what was found is called, and answers the status or None.
 COMMANDS: list[tuple[str, str, Callable[[argparse.ArgumentParser], None]]] = [
-    ("convert", "writes a network in another format as a weighted edge list", add_convert),
-    ("plan", "prints the labels and intervals of a network in any format that convert reads", add_shown),
-    ("stats", "prints the figures of the plan of a network in any format that convert reads", add_shown),
+    ("convert", "convert a network in another format to a weighted edge list", add_convert),
+    ("plan", "print the labels and intervals of a network in any format that convert reads", add_shown),
+    ("stats", "print the figures of the plan of a network in any format that convert reads", add_shown),
 ]
 ABOUT = {
-    "convert": "Writes a network in another format as a weighted edge list, to be read by route with --format edgelist. "
-    "Directions are dropped, and of several edges between two nodes the least weight is kept. What is changed is told on standard error. "
+    "convert": "Convert a network in another format to a weighted edge list, which the program reads with --format edgelist. "
+    "Directions are dropped, and of several edges between two nodes the least weight is kept. What is changed is reported on standard error. "
     "The file - is standard input.",
 }
 
@@ -56,7 +58,7 @@ class Version(argparse.Action):
         try:
             library = inside.library()
             if library:
-                print(f"the library at {library.path}, in this process")
+                print(f"library {library.path}, in this process")
             print(f"{program.version()} at {program.find()}")
         except BentzoluError as error:
             print(error)
@@ -64,8 +66,8 @@ class Version(argparse.Action):
 
 
 def words() -> argparse.ArgumentParser:
-    parser = argparse.ArgumentParser(prog="python3 -m bentzolu", description="Tools around route, interval routing with live relabelling.")
-    parser.add_argument("--version", action=Version, nargs=0, help="prints the versions of the package and of the program that it calls")
+    parser = argparse.ArgumentParser(prog="python3 -m bentzolu", description="Tools around the program: interval routing with live relabelling.")
+    parser.add_argument("--version", action=Version, nargs=0, help="print the versions of the package and of the program that it calls")
     subparsers = parser.add_subparsers(dest="command", required=True, metavar="COMMAND")
     for name, what, add in COMMANDS:
         add(subparsers.add_parser(name, help=what, description=ABOUT.get(name, f"{what[0].upper()}{what[1:]}.")))

@@ -37,7 +37,7 @@ def whole_numbers(data: bytes) -> Tuple[Array, Array]:
     parting = flat[ends]
     lengths = np.diff(ends, prepend=-1) - 1
     if len(flat) and (digits[-1] or not ((parting == 32) | (parting == 10)).all() or lengths.min() < 1 or lengths.max() > 9):
-        raise FormatError("a text of something else than whole numbers")
+        raise FormatError("the text has something other than whole numbers")
     found = np.zeros(len(ends), np.int32)
     for place in range(int(lengths.max()) if len(ends) else 0):
         some = np.flatnonzero(lengths > place)
@@ -80,19 +80,19 @@ def read_rows(text: Union[str, bytes]) -> Rows:
     head, _, body = data.partition(b"\n")
     words = head.split(b" ")
     if len(words) != 4 or words[0] != b"plan" or not (words[2].isdigit() and words[3].isdigit()):
-        raise FormatError("no plan", 1)
+        raise FormatError("not a plan", 1)
     n, total = int(words[2]), int(words[3])
     numbers, last = map(np.concatenate, zip(*map(whole_numbers, pieces(body or b"\n"))))
     ends = np.flatnonzero(last)
     heads = np.concatenate([np.zeros(1, ends.dtype), ends[:-1] + 1])
     width = np.diff(ends, prepend=-1)
     if len(ends) != n or len(numbers) != 2 * n + 2 * total or (width % 2).any():
-        raise FormatError("not as many nodes and intervals as it says", 1)
+        raise FormatError("the numbers of nodes and intervals do not match the first line", 1)
     rest = np.ones(len(numbers), bool)
     rest[heads] = rest[heads + 1] = False
     pairs, nodes, length = numbers[rest], numbers[heads], (width - 2) // 2
     if n > 1 and not (np.diff(nodes) > 0).all():
-        raise FormatError("nodes that are not in the order of their numbers", 1)
+        raise FormatError("the nodes are not in the order of their numbers", 1)
     return Rows(words[1].decode(), nodes, numbers[heads + 1], length, np.repeat(nodes, length), pairs[::2], pairs[1::2])
 
 
@@ -130,7 +130,7 @@ class Wiring:
         keys = tails * np.int32(self.n) + heads
         at = np.minimum(np.searchsorted(self.keys, keys), max(0, self.none - 1))
         if len(keys) and (self.none == 0 or (self.keys[at] != keys).any()):
-            raise FormatError("a plan with a neighbour that no link leads to")
+            raise FormatError("the plan has a neighbour without a link to it")
         return self.outward[at] if len(keys) else np.zeros(0, np.int64)
 
 
@@ -145,7 +145,7 @@ def next_arcs(rows: Rows, wiring: Wiring) -> Array:
     last = np.cumsum(rows.length)
     first = last - rows.length
     if (rows.length < 1).any() or (rows.start >= n).any():
-        raise FormatError("a row that does not have the labels of all nodes")
+        raise FormatError("a row does not have the labels of all nodes")
     front = np.arange(n) + first  # labels before a row's first start go the way of its last interval
     wide, part = np.empty(len(arcs) + n, wiring.type), np.empty(len(arcs) + n, np.int64)
     others = np.ones(len(wide), bool)

@@ -5,7 +5,8 @@ What all calls take:
 - `graph`: a graph of NetworkX without directions; or a list of edges `(u, v)` or `(u, v, weight)`; or the path of a file,
   a `str` or a `pathlib.Path`, in any format that `python3 -m bentzolu convert` reads. The nodes of a file are strings,
   or what the file's format says that they are.
-- `kind`, `root`, and by name all other fields of `Options`; or these as one value, `options=Options(..)`.
+- `kind`, `root`, and by name all other fields of `Options`, as `landmarks` and `stretch` of kind landmark; or these as one value,
+  `options=Options(..)`.
 
 What the program refuses is a `RouteError`, with the sentence that says why.
 """
@@ -18,7 +19,7 @@ from typing import Any, Iterable, Mapping, Sequence
 from . import drawing, program as programs, texts
 from .errors import GraphError
 from .label_ranges import Range, read_ranges
-from .options import Options, chosen
+from .options import Options, chosen, detour_words
 from .sources import Topology, read_text, script_of, topology_of
 from .typed import Axes, NameTable, Network
 
@@ -51,12 +52,17 @@ def ask(
 
 def options_of(topology: Topology, given: Options) -> list[str]:
     """The words of options that are one value."""
-    return options(topology, given.kind, given.root, given.words)
+    return options(topology, given.kind, given.root, words_of(given))
+
+
+def words_of(given: Options) -> list[str]:
+    """The further words of options: the landmarks and the stretch, and those that are given as words."""
+    return [*detour_words(given.landmarks, given.stretch), *map(str, given.words)]
 
 
 def asked(subcommand: str, graph: Network, given: Options, ends: Sequence[Any] | None = None) -> tuple[str, NameTable]:
     """`ask` with the options as one value."""
-    return ask(subcommand, graph, given.kind, given.root, given.weight, given.program, given.timeout, given.words, ends, 5)
+    return ask(subcommand, graph, given.kind, given.root, given.weight, given.program, given.timeout, words_of(given), ends, 5)
 
 
 def plan(graph: Network, kind: str | None = None, root: Any = None, *, options: Options | None = None, **named: Any) -> texts.Plan:
@@ -67,13 +73,13 @@ def plan(graph: Network, kind: str | None = None, root: Any = None, *, options: 
     graph : graph of NetworkX, list of edges `(u, v)` or `(u, v, weight)`, or path of a file
         The network. It is connected and has at most 16,384 nodes and 65,536 edges.
     kind : str, optional
-        `"shortest"` (the default), `"compact"` or `"tree"`.
+        `"shortest"` (the default), `"compact"`, `"tree"` or `"landmark"`.
     root : node, optional
-        The node from which labels are numbered; the first node by default.
+        The node from which labels are numbered; the first node by default. It is a landmark.
     options : Options, optional
         Options as one value.
     **named
-        Further options by name: `weight`, `program`, `timeout` and `words`, as in `Options`.
+        Further options by name: `landmarks`, `stretch`, `weight`, `program`, `timeout` and `words`, as in `Options`.
 
     Returns
     -------
@@ -200,7 +206,7 @@ def stats(graph: Network, kind: str | None = None, root: Any = None, *, options:
     Returns
     -------
     Stats
-        With `starts`, `entries`, `bits`, `stretch`, `worst`, `compactness`, `dependencies` and more.
+        With `starts`, `entries`, `bits`, `stretch`, `worst`, `compactness`, `dependencies`, `landmarks` and more.
 
     Raises
     ------
@@ -320,7 +326,7 @@ def draw(
     """
     ends = None if source is None and target is None else (source, target)
     if ax is not None and not hasattr(graph, "is_directed"):
-        raise GraphError("matplotlib draws a graph of NetworkX alone")
+        raise GraphError("matplotlib draws only graphs of NetworkX")
     given = chosen(options, named, kind=kind, root=root)
     output, names = asked("draw", graph, given, ends)
     if ax is not None:

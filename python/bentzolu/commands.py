@@ -9,6 +9,7 @@ import warnings
 from . import calls, program as programs
 from .convert import READERS, converted, format_of, renamed
 from .errors import BentzoluError, TopologyWarning
+from .options import detour_words
 from .sources import of_file, read_text
 
 
@@ -36,11 +37,11 @@ def convert(found: argparse.Namespace) -> None:
     text = text_of_file(found.file)
     format = found.format or format_of(found.file, text)
     if format is None:
-        raise BentzoluError(f"the format of {found.file} is not known: give --from, one of {', '.join(sorted(READERS))}")
+        raise BentzoluError(f"the format of {found.file} is unknown: give --from with one of {', '.join(sorted(READERS))}")
     edges, names, notes = converted(text, format, found.largest, found.weight)
     changed = renamed(names)
     if changed and not found.names:
-        notes.append(f"{changed} {'node has a new name' if changed == 1 else 'nodes have new names'}: --names TABLE writes which")
+        notes.append(f"{changed} {'node has a new name' if changed == 1 else 'nodes have new names'}: --names TABLE lists them")
     if found.names:
         pathlib.Path(found.names).write_bytes(names.table().encode("utf-8"))
     write(found.output, edges)
@@ -53,7 +54,7 @@ def shown(found: argparse.Namespace) -> None:
         warnings.simplefilter("always", TopologyWarning)
         weight = "weight" if found.weight is None else None if found.weight == "1" else found.weight
         topology = of_file(found.file, found.format, weight, found.largest)
-        asked = [found.command, *calls.options(topology, found.kind, None, ())]
+        asked = [found.command, *calls.options(topology, found.kind, None, detour_words(found.landmarks, found.stretch))]
         asked += [] if found.root is None else [f"--root={found.root}"]
         asked += [] if found.numbering is None else [f"--numbering={found.numbering}"]
         said = programs.run(asked, [("topology", topology.text)], names=topology.names)

@@ -116,15 +116,15 @@ def whole_weights(weights: list[Fraction], notes: list[str]) -> list[int]:
     if not weights:
         return []
     if min(weights) <= 0:
-        raise BentzoluError(f"a weight of {float(min(weights)):g} can't be scaled to a whole number from 1: take --weight 1 for 1 everywhere")
+        raise BentzoluError(f"a weight of {float(min(weights)):g} can't be scaled to a whole number of at least 1: use --weight 1 for 1 everywhere")
     exact = factor_for(weights)
     if exact is not None:
         if exact > 1:
-            notes.append(f"weights times {exact}, exactly")
+            notes.append(f"weights are multiplied by {exact}, exactly")
         return [int(weight * exact) for weight in weights]
     factor = Fraction(MOST_WEIGHT) / max(weights)
     factor = Fraction(math.floor(factor)) if factor >= 1 else factor
-    notes.append(f"weights times {float(factor):g} and rounded, which can change which paths are shortest")
+    notes.append(f"weights are multiplied by {float(factor):g} and rounded, which can change the shortest paths")
     return [max(1, round(weight * factor)) for weight in weights]
 
 
@@ -134,14 +134,14 @@ def given_weights(network: Network, weight: str | None, notes: list[str]) -> lis
     if weight is None:
         weight = "weight" if any("weight" in found for _, _, found in network.edges) else "1"
         if weight == "1" and attributes:
-            notes.append(f"each weight is 1; the edges have {', '.join(attributes)}: --weight NAME takes one of them")
+            notes.append(f"each weight is 1; the edges have {', '.join(attributes)}: choose one by --weight NAME")
     if weight == "1":
         return [Fraction(1)] * len(network.edges)
     missing = sum(weight not in found for _, _, found in network.edges)
     if network.edges and missing == len(network.edges):
-        raise BentzoluError(f"no edge has a weight of the name {weight!r}; there are: {', '.join(attributes) or 'none'}")
+        raise BentzoluError(f"no edge has an attribute {weight!r}; there are: {', '.join(attributes) or 'none'}")
     if missing:
-        notes.append(f"{missing} of {len(network.edges)} edges have no {weight!r} and weigh 1")
+        notes.append(f"{missing} of {len(network.edges)} edges have no {weight!r} and get weight 1")
     return [decimal(found.get(weight, 1)) for _, _, found in network.edges]
 
 
@@ -158,11 +158,11 @@ def links_of(network: Network, weight: str | None, notes: list[str]) -> dict[tup
         more += pair in links
         links[pair] = min(given, links.get(pair, given))
     if loops:
-        notes.append(f"{loops} edges from a node to itself left out")
+        notes.append(f"{loops} edges from a node to itself are left out")
     if network.directed:
         notes.append("directions are dropped")
     if more:
-        notes.append(f"{more} further edges between linked nodes left out: a link has the least weight, in both directions")
+        notes.append(f"{more} more edges between linked nodes are left out: a link has the least weight, in both directions")
     return dict(zip(links, whole_weights(list(links.values()), notes)))
 
 
@@ -171,13 +171,13 @@ def converted(text: str, format: str, largest: bool = False, weight: str | None 
     network = READERS[format](text)
     notes: list[str] = []
     if not network.nodes:
-        raise BentzoluError("there is no node")
+        raise BentzoluError("the network has no nodes")
     parts = parts_of(network)
     if len(parts) > 1:
         sizes = ", ".join(str(len(part)) for part in parts[:5]) + (", .." if len(parts) > 5 else "")
         if not largest:
-            raise BentzoluError(f"there are {len(parts)} parts that no edge joins, of {sizes} nodes; --largest takes the largest")
-        notes.append(f"the largest of {len(parts)} parts, {len(parts[0])} of {len(network.nodes)} nodes")
+            raise BentzoluError(f"the network has {len(parts)} unconnected parts, of {sizes} nodes; --largest takes the largest")
+        notes.append(f"only the largest of {len(parts)} parts is taken, with {len(parts[0])} of {len(network.nodes)} nodes")
         network = only(network, parts[0])
     links, names = links_of(network, weight, notes), Names(network.nodes)
     lines = [f"{names.name(u)} {names.name(v)} {given}\n" for (u, v), given in links.items()]

@@ -68,7 +68,7 @@ class PlanDiff:
         return total
 
     def _repr_html_(self) -> str:
-        heads = ("node", "label before", "label", "starts that go", "starts that are put")
+        heads = ("node", "label before", "label", "starts removed", "starts added or changed")
         rows = (
             (node, it.before, it.label, shown.joined(it.removed), shown.joined(f"{start} → {to}" for start, to in it.put))
             for node, it in self.nodes.items()
@@ -77,7 +77,7 @@ class PlanDiff:
 
     def __repr__(self) -> str:
         said = f"{len(self.nodes):,} of {self.size:,} nodes change, {self.relabelled:,} labels are new"
-        return f"<PlanDiff: {said}, {self.removed:,} starts go, {self.put:,} are put>"
+        return f"<PlanDiff: {said}, {self.removed:,} starts are removed, {self.put:,} added or changed>"
 
 
 def diff(old: Plan, new: Plan) -> PlanDiff:
@@ -89,7 +89,7 @@ def diff(old: Plan, new: Plan) -> PlanDiff:
         where the plans are not of the same nodes
     """
     if set(old.nodes) != set(new.nodes):
-        raise FormatError(f"the plans are not of the same nodes: {len(old.nodes):,} and {len(new.nodes):,} of them, or others")
+        raise FormatError(f"the plans do not have the same nodes ({len(old.nodes):,} and {len(new.nodes):,} nodes)")
     found = {}
     for node, it in new.nodes.items():
         was = old.nodes[node]

@@ -26,7 +26,7 @@ def html_end(text: str, at: int) -> int:
         depth += 1 if found[0] == "<" else -1
         if depth == 0:
             return at + found.end()
-    raise FormatError("an angle bracket that is not closed", text.count("\n", 0, at) + 1)
+    raise FormatError("an angle bracket is not closed", text.count("\n", 0, at) + 1)
 
 
 def value_of(found: re.Match[str], text: str) -> tuple[str, int]:
@@ -53,7 +53,7 @@ def tokens_of(text: str) -> list[tuple[str, str, int]]:
     while at < len(text):
         found = TOKEN.match(text, at)
         if not found:
-            raise FormatError(f"{text[at]!r} is no part of DOT", line)
+            raise FormatError(f"{text[at]!r} is not allowed in DOT", line)
         kind, (said, end) = kind_of(found), value_of(found, text)
         if kind != "blank":
             tokens.append((kind, said.lower() if kind == "keyword" else said, line))
@@ -80,7 +80,7 @@ class Reader:
 
     def refuse(self, wanted: str) -> NoReturn:
         _, said, line = self.tokens[self.at]
-        raise FormatError(f"{said[:40]!r} where {wanted} is wanted" if said else f"the end where {wanted} is wanted", line)
+        raise FormatError(f"expected {wanted}, found {said[:40]!r}" if said else f"expected {wanted}, found the end of the text", line)
 
     def takes(self, mark: str) -> bool:
         """Takes a mark or a keyword if it comes next."""
@@ -184,4 +184,4 @@ def read_dot(text: str) -> Network:
     try:
         return Reader(text).graph()
     except RecursionError:
-        raise FormatError("subgraphs are nested too deep") from None
+        raise FormatError("subgraphs are nested too deeply") from None

@@ -14,11 +14,11 @@ class UnknownNodeError(BentzoluError, ValueError):
 
 
 class DirectedGraphError(BentzoluError, TypeError):
-    """A graph with directions, of which `route` knows none."""
+    """A directed graph; the program has no directed links."""
 
 
 class MultigraphError(BentzoluError, TypeError):
-    """A graph with several edges between two nodes, of which `route` knows one."""
+    """A graph with several edges between two nodes; the program has one link between two nodes."""
 
 
 class GraphError(BentzoluError, TypeError):

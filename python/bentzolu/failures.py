@@ -34,8 +34,8 @@ class Finder:
             return None
         if (min(u, v), max(u, v)) not in self.link:
             raise FailureError(
-                f"{found!r} is no link of the network: a tuple of two nodes is the link between them; "
-                f"for both nodes give the list {list(found)!r}"
+                f"{found!r} is not a link of the network: a tuple of two nodes is the link between them; "
+                f"for the failure of both nodes, give the list {list(found)!r}"
             )
         return self.link[min(u, v), max(u, v)]
 
@@ -60,7 +60,7 @@ class Finder:
         """The parts of what is neither a node nor a link."""
         if isinstance(found, (tuple, list, set, frozenset)) and found:
             return list(found)
-        raise FailureError(f"{found!r} is no failure: it is neither a link nor a node of the network, nor a list of these")
+        raise FailureError(f"{found!r} is not a failure: give a link or a node of the network, or a list of these")
 
     def part(self, part: Any, whole: Any) -> Item:
         it = self.item(part)
@@ -83,9 +83,9 @@ def failures_of(failures: Any, network: Network) -> List[Failure]:
             return [((i,), ()) for i in links]
         if failures == "nodes":
             return [((), (u,)) for u in nodes]
-        raise FailureError(f"{failures!r} is neither 'links' nor 'nodes', nor a number of links that fail together, nor a list of failures")
+        raise FailureError(f"{failures!r} is not a set of failures: give 'links', 'nodes', a number of links that fail together, or a list of failures")
     if isinstance(failures, bool) or not isinstance(failures, (int, Iterable)):
-        raise FailureError(f"{failures!r} is neither 'links' nor 'nodes', nor a number of links that fail together, nor a list of failures")
+        raise FailureError(f"{failures!r} is not a set of failures: give 'links', 'nodes', a number of links that fail together, or a list of failures")
     if isinstance(failures, int):
         if not 1 <= failures <= len(links):
             raise FailureError(f"{failures} of {len(links):,} links can't fail together: give a number from 1 to {len(links):,}")

@@ -20,7 +20,7 @@ OF_SWEEPS = ("links", "stretch", "bits")
 MOST_BARS = 10
 Points = Mapping[str, Iterable[Tuple[float, float]]]  # by label, pairs of x and y
 NAMES = {
-    "bits": "bits of all rows", "sent": "bits sent at a change", "mean": "mean weight of a walk", "worst": "greatest weight of a walk",
+    "bits": "bits of all rows", "sent": "bits sent at a change", "mean": "mean weight of a path", "worst": "greatest weight of a path",
     "links": "links that are up",
 }
 
@@ -176,9 +176,9 @@ def plot_sweep(rows: Any, ax: Any = None, what: str = "stretch") -> Any:
     """
     drawing = {"links": draw_worst, "stretch": draw_stretches, "bits": draw_bits}.get(what)
     if drawing is None:
-        raise BentzoluError(f"a sweep has no figure {what!r}: there are {', '.join(OF_SWEEPS)}")
+        raise BentzoluError(f"a sweep has no figure {what!r}: give one of {', '.join(OF_SWEEPS)}")
     if not len(rows):
-        raise BentzoluError("there is nothing to draw: the sweep has no row")
+        raise BentzoluError("there is nothing to draw: the sweep has no rows")
     return drawing(rows, axes(ax))
 
 
@@ -195,7 +195,7 @@ def draw_worst(rows: Any, ax: Any) -> Any:
         ax.text(length, at, f" {said}", va="center", fontsize=7)
     ax.set_yticks(range(len(worst)), [shortened(row.name) for row in worst], fontsize=7)
     ax.set_xlim(0, wide * 1.28)
-    finished(ax, "greatest stretch; beside it the share of pairs with a longer walk", "", legend=False).grid(False, axis="y")
+    finished(ax, "greatest stretch, and the share of pairs with a longer path", "", legend=False).grid(False, axis="y")
     return ax
 
 
@@ -214,7 +214,7 @@ def draw_stretches(rows: Any, ax: Any) -> Any:
     """The worst and the mean stretch of all failures, each ranked by itself."""
     found = [row for row in rows if row.worst_stretch is not None]
     if not found:
-        raise BentzoluError("there is nothing to draw: each failure cuts nodes off, or was refused")
+        raise BentzoluError("there is nothing to draw: every failure cuts nodes off or was refused")
     draw_ranked(ax, {"worst pair": [row.worst_stretch for row in found], "mean of all pairs": [row.mean_stretch for row in found]})
     cut = sum(bool(row.disconnected) for row in rows)
     said = f"failures, ranked ({cut:,} more cut nodes off)" if cut else "failures, ranked"

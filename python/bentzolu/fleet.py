@@ -88,9 +88,9 @@ def read_row(text: str) -> Row:
             first, last = span.split("-")
             found.append((int(first), int(last), to))
     except ValueError:
-        raise UnknownRecord(f"{text[:60]!r} is no row: is the fleet's controller of another version?") from None
+        raise UnknownRecord(f"{text[:60]!r} is not a row: does the fleet's controller have another version?") from None
     if len(words) % 2:
-        raise UnknownRecord(f"{text[:60]!r} is no row: a range has no neighbour")
+        raise UnknownRecord(f"{text[:60]!r} is not a row: a range has no neighbour")
     return tuple(found)
 
 
@@ -107,14 +107,14 @@ def read_json(key: str, text: str) -> Dict[str, Any]:
     except ValueError:
         found = None
     if not isinstance(found, dict):
-        raise UnknownRecord(f"{key} has {text[:60]!r}, which is no object of JSON: put it right, or delete the key")
+        raise UnknownRecord(f"{key} has {text[:60]!r}, which is not a JSON object: correct it, or delete the key")
     return found
 
 
 def read_number(key: str, text: str) -> int:
     """The whole number of a key's text; UnknownRecord where it is none."""
     if not (text.isascii() and text.isdigit()):
-        raise UnknownRecord(f"{key} has {text[:60]!r}, which is no number: put it right")
+        raise UnknownRecord(f"{key} has {text[:60]!r}, which is not a number: correct it")
     return int(text)
 
 
@@ -159,7 +159,7 @@ class Member:
             ports = {name: Port(int(it[0]), *map(str, it[1:])) for name, it in found["ports"].items()}
             return Member(int(found["number"]), int(found["label"]), ports)
         except (KeyError, TypeError, ValueError, AttributeError, IndexError):
-            raise UnknownRecord(f"{key} is no member: enroll the topology again by `fleet enroll`") from None
+            raise UnknownRecord(f"{key} is not a member: enroll the topology again by `fleet enroll`") from None
 
 
 @dataclass(frozen=True)
@@ -194,7 +194,7 @@ class Record:
                           frozenset(map(int, found["other"])), int(found["stamp"]), frozenset(map(str, found["down"])),
                           str(found.get("says", "")), int(found.get("seen", 0)))
         except (KeyError, TypeError, ValueError):
-            raise UnknownRecord(f"{key} is no record of an agent of this version: upgrade the older one") from None
+            raise UnknownRecord(f"{key} is not a record of an agent of this version: upgrade the older one") from None
 
 
 @dataclass(frozen=True)
@@ -218,7 +218,7 @@ class Spec:
             without = tuple(link_of(str(a), str(b)) for a, b in found["without"])
             return Spec(kind_of(found), without, tuple(map(str, found["cut"])), str(found.get("topology", "")))
         except (KeyError, TypeError, ValueError):
-            raise UnknownRecord(f"{key} is no commit of this version: upgrade the older controller") from None
+            raise UnknownRecord(f"{key} is not a commit of this version: upgrade the older controller") from None
 
 
 @dataclass(frozen=True)
@@ -241,7 +241,7 @@ class Want:
             without = tuple(sorted(link_of(str(a), str(b)) for a, b in found.get("without", [])))
             return Want(kind_of(found), without, frozenset(map(str, found.get("gone", []))))
         except (KeyError, TypeError, ValueError):
-            raise UnknownRecord(f"{key} says nothing that is known: write it by `fleet want`") from None
+            raise UnknownRecord(f"{key} is not understood: write it by `fleet want`") from None
 
 
 # Topologies, as far as a fleet looks at them
@@ -727,33 +727,33 @@ def some(names: Sequence[str]) -> str:
 
 def waits(state: State) -> List[str]:
     """What a fleet waits for, in sentences."""
-    said = [f"{key}: {why}" for key, why in sorted(state.unread.items())]
+    said = [why for _, why in sorted(state.unread.items())]
     for epoch in sorted(state.commits, reverse=True):
         if epoch > state.stamp:
             late = [name for name in needed(state, epoch) if not has_acknowledged(state, name, epoch)]
             gone = [name for name in late if name not in state.live]
             if late:
-                said.append(f"epoch {epoch} waits for {some(late)}" + (f"; no agent is there at {some(gone)}" if gone else ""))
+                said.append(f"epoch {epoch} waits for {some(late)}" + (f"; no agent runs at {some(gone)}" if gone else ""))
             break
     behind = [name for name in state.here() if state.live[name].stamp < state.stamp]
     if behind:
         said.append(f"epoch {state.stamp} is not stamped yet by {some(behind)}")
     if state.away():
-        said.append(f"no agent is there at {some(state.away())}: start it, or say `fleet gone` of a router that is gone for good")
+        said.append(f"no agent runs at {some(state.away())}: start it, or run `fleet gone` if the router is gone for good")
     if is_beyond(state):
-        said.append("a record has an epoch above the counter: etcd was restored from a backup; stop the controllers, and say `fleet restored`")
+        said.append("a record has an epoch above the counter: etcd was restored from a backup; stop the controllers, and run `fleet restored`")
     if state.refused:
         said.append(f"no plan could be made for {state.refused}: the controller's log says why")
     if not state.next and not state.away():
-        said.append(f"each of the {state.tags} tags is held by some router")
+        said.append(f"all {state.tags} tags are in use by routers")
     if not state.members:
-        said.append("nothing is enrolled yet: say `fleet enroll TOPOLOGY`")
+        said.append("nothing is enrolled yet: run `fleet enroll TOPOLOGY`")
     elif state.want is None:
-        said.append("nothing is wanted yet: say `fleet want`")
+        said.append("no plan is requested yet: run `fleet want`")
     if state.want and state.shape:
         if not reaches_all(state.shape, state.shape.links.intersection(state.down)):
-            said.append("the links that are up leave some node alone: the plan stays as it is")
+            said.append("the links that are up do not connect all nodes: the plan stays as it is")
         if state.want.gone & set(state.live):
-            said.append(f"{', '.join(sorted(state.want.gone & set(state.live)))} is there, and said to be gone: say `fleet gone --back`")
+            said.append(f"{', '.join(sorted(state.want.gone & set(state.live)))} is running, but marked as gone: run `fleet gone --back`")
     said += [f"{name}: {record.says}" for name, record in sorted(state.live.items()) if record.says]
     return said

@@ -17,6 +17,10 @@ from .fleet import Add, Held, Member, Rebuild, Record, Remove, Row, Said, Stamp,
 from .fleet_calls import Answer, Call, Done, Event, Get, Grant, Keep, Modified, Put, Span, Txn, under
 
 
+STRANGER = ("another program changed the table netdev bz: what is not the fleet's is taken out, and what lacks is added; "
+            "give that program a table of its own, and start it before the agent where it flushes all")
+
+
 class KernelError(BentzoluError):
     """A change that the kernel refused, or a port that is not there; the text says what to do."""
 
@@ -213,7 +217,7 @@ class Agent:
             except KernelError as fault:
                 return self.lost(str(fault))
             if (found.rows, found.stamped, found.is_ours) != (self.held.rows, self.held.stamped, True):
-                self.outside.tell("differs", tags=sorted(found.rows), stamped=found.stamped)
+                self.outside.tell("differs", tags=sorted(found.rows), stamped=found.stamped, why=STRANGER)
                 self.held = replace(found, newest=self.held.newest)
                 self.settle()
             self.write()  # what is wrong with the ports may have changed
@@ -235,7 +239,7 @@ class Agent:
         if what == "keep":
             if number == 0:
                 self.lease = 0
-                return self.lost("the lease is gone")
+                return self.lost("the lease has expired")
             self.due["keep"] = self.outside.now() + self.times.probe
             return None
         if self.lease and number == 0:
@@ -255,11 +259,11 @@ class Agent:
             other = self.record_in(record[0].value)
             if other and other.host != self.host:
                 return self.lost(f"another agent has the name {self.node}, at {other.host}: give each router its own `node`; "
-                                 f"if that one is gone, wait until its lease ends")
+                                 f"if that one has stopped, wait until its lease ends")
         if not self.learn([(it.key, it.value) for part in pairs for it in part]):
             return None
         if self.view.member is None:
-            return self.lost(f"etcd has no member {self.node}: `fleet enroll` names the routers, and `node` has to be one of them")
+            return self.lost(f"etcd has no member {self.node}: `fleet enroll` names the routers, and `node` must be one of them")
         try:
             self.kernel.open(self.view.member)
             if self.held is None:

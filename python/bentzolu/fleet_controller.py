@@ -131,7 +131,7 @@ class Controller:
         number = answer if isinstance(answer, int) else 0
         if number == 0:
             self.lease = 0
-            return self.lost("the lease is gone") if what == "keep" else self.begin()
+            return self.lost("the lease has expired") if what == "keep" else self.begin()
         self.due["keep"] = self.outside.now() + self.lease_seconds / 3
         if what == "keep":
             return None
@@ -174,7 +174,7 @@ class Controller:
     def has_read(self, answer: Done) -> None:
         """All keys at one revision."""
         if not answer.held:
-            return self.lost("another one leads")
+            return self.lost("another controller leads")
         self.state, self.writing, self.planning = State(), None, 0
         for pair in [pair for found in answer.found for pair in found]:
             self.learn(pair.key, pair.value)
@@ -242,7 +242,7 @@ class Controller:
         """The write is done, or refused since something else is so than was thought."""
         write, self.writing = self.writing, None
         if not answer.held or write is None or isinstance(write, Drop):
-            return self.lost("a write was refused: another one leads, or wrote")
+            return self.lost("a write was refused: another controller leads, or has written")
         for change in changes_of(self.state, write)[1]:
             if isinstance(change, Put):
                 self.learn(change.key, change.value)

@@ -22,6 +22,7 @@ TOKEN_LASTS = 240.0  # seconds after which another token is asked for; etcd's de
 TOKEN_WAIT = 30.0  # seconds that one asking for a token may take
 MOST_LINE = 1 << 26  # bytes of a line of an answer
 LEAST, BELOW = (3, 4), (4, 0)  # versions of etcd
+NOT_YET, NO_MORE = 9, 10  # what OpenSSL says of a certificate whose time is not now
 
 
 class EtcdError(BentzoluError):
@@ -49,7 +50,7 @@ class Access:
         """
         for end in self.endpoints:
             if urlsplit(end).scheme not in ("http", "https") or not urlsplit(end).hostname:
-                raise EtcdError(f"{end!r} is no endpoint: write https://HOST:2379")
+                raise EtcdError(f"{end!r} is not an endpoint: write https://HOST:2379")
         if not any(end.startswith("https:") for end in self.endpoints):
             return None
         try:
@@ -58,7 +59,7 @@ class Access:
                 context.load_cert_chain(self.certificate, self.key)
         except (OSError, ssl.SSLError) as fault:
             names = ", ".join(filter(None, (self.ca, self.certificate, self.key)))
-            raise EtcdError(f"of {names} some can't be read ({fault}): put the right files there") from None
+            raise EtcdError(f"the files {names} can't be read ({fault}): give the right files") from None
         return context
 
 
@@ -137,9 +138,10 @@ class Etcd:
         try:
             return await asyncio.open_connection(url.hostname, url.port or 2379, ssl=tls, limit=MOST_LINE)
         except ssl.SSLCertVerificationError as fault:
-            raise EtcdError(f"the certificate of {self.endpoint} is not good ({fault.verify_message}): is `ca` the authority's file?") from None
+            asked = "is this machine's clock right? If it is, make new certificates" if fault.verify_code in (NOT_YET, NO_MORE) else "is `ca` the authority's file?"
+            raise EtcdError(f"the certificate of {self.endpoint} is not valid ({fault.verify_message}): {asked}") from None
         except ssl.SSLError as fault:
-            raise EtcdError(f"{self.endpoint} and TLS: {fault.reason}; are `certificate` and `key` those of this client?") from None
+            raise EtcdError(f"TLS with {self.endpoint} failed ({fault.reason}): are `certificate` and `key` those of this client?") from None
 
     def send(self, writer: asyncio.StreamWriter, method: str, path: str, body: bytes) -> None:
         head = [f"{method} {path} HTTP/1.1", f"Host: {urlsplit(self.endpoint).netloc}", "Content-Type: application/json",
@@ -227,7 +229,7 @@ class Etcd:
         """What a refusal means, and what to do."""
         user = self.access.user or "nobody"
         if "authentication failed" in said or "invalid user" in said:
-            return f"etcd refuses the user {user}: is the password that of `fleet users`?"
+            return f"etcd refuses the user {user}: is it the password from `fleet users`?"
         if "user name is empty" in said or "permission denied" in said:
             return f"etcd does not permit {user} this ({path}): give the user and its role by `fleet users`, and `user` in the configuration"
         if "CommonName" in said:
@@ -240,7 +242,7 @@ class Etcd:
         version = str(self.found_in("/version", status, data).get("etcdserver", ""))
         numbers = tuple(map(int, re.findall(r"\d+", version)[:2]))
         if not LEAST <= numbers < BELOW:
-            raise EtcdError(f"{self.endpoint} is etcd {version or 'of no known version'}: 3.4 or a later 3 is wanted")
+            raise EtcdError(f"{self.endpoint} is etcd {version or 'of no known version'}: 3.4 or a later version of 3 is needed")
         self.known[self.endpoint] = version
 
     async def authenticate(self) -> None:
@@ -324,7 +326,7 @@ class Etcd:
             raise EtcdError(self.sentence("/v3/watch", str(found["error"].get("message", found["error"]))))
         found = found["result"]
         if int(found.get("compact_revision", 0)):
-            raise EtcdError("what was to be followed is compacted; all is read again")
+            raise EtcdError("the events to follow are compacted; all is read again")
         if found.get("canceled"):
             raise EtcdError(self.sentence("/v3/watch", str(found.get("cancel_reason"))))
         return [event_of(it) for it in found.get("events", [])]

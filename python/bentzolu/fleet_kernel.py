@@ -10,7 +10,7 @@ import zlib
 from typing import Any, Callable, Dict, FrozenSet, List, Set
 
 from . import plane
-from .fleet import Add, Held, Member, Rebuild, Remove, Row, Stamp, Step
+from .fleet import Add, Held, Member, Port, Rebuild, Remove, Row, Stamp, Step
 from .fleet_agent import KernelError
 
 UP, LOWER_UP, NEW_LINK, GROUP_LINK, NAME = 1, 0x10000, 16, 1, 3
@@ -28,7 +28,7 @@ def run(command: List[str], text: str = "", may_fail: bool = False) -> str:
     if done.returncode and not may_fail:
         lines = done.stderr.strip().splitlines() or [f"status {done.returncode}"]
         said = next((line for line in lines if "Error" in line or "rror:" in line), lines[0])
-        hint = "; the agent wants CAP_NET_ADMIN" if "not permitted" in done.stderr else ""
+        hint = "; the agent needs CAP_NET_ADMIN" if "not permitted" in done.stderr else ""
         raise KernelError(f"{command[0]}: {said[:300]}{hint}")
     return done.stdout
 
@@ -40,6 +40,7 @@ class Linux:
         self.member = Member(0, 0, {})
         self.opened: Callable[[], None] = lambda: None  # is called when the router is prepared
         self.missing: Set[str] = set()
+        self.used: Dict[str, Port] = {}  # a port that is not there is what the table has for its neighbour, where that is
         self.silent: Set[str] = set()
         self.asked = 0.0
         self.name_of: Dict[str, str] = {}
@@ -58,6 +59,7 @@ class Linux:
         self.name_of = {f"to_{port.number}": name for name, port in member.ports.items()}
         devices = {it["ifname"] for it in json.loads(run(["ip", "-j", "link"]) or "[]")}
         self.missing = {name for name, port in member.ports.items() if port.device not in devices}
+        self.used = self.ports_used(devices)
         lines = [] if "bz0" in devices else [f"link add name bz0 type veth peer name bz1 address {plane.OWN_LINK}"]
         for device in ("bz0", "bz1"):
             lines += [f"link set dev {device} addrgenmode none", f"link set dev {device} up"]
@@ -65,16 +67,31 @@ class Linux:
                   f"neigh replace fe80::ffff lladdr {plane.OWN_LINK} dev bz0 nud permanent",
                   f"route replace {plane.GROUP:x}::/16 via fe80::ffff dev bz0 hoplimit 255"]
         run(["ip", "-6", "-batch", "-"], "\n".join(lines) + "\n")
-        for name in sorted(set(member.ports) - self.missing):
+        for name in sorted(self.used):
             self.port_up(name)
         if "iif bz1" not in run(["ip", "-6", "rule"]):
             run(["ip", "-6", *plane.COMES_BACK.split()])
         self.read()
         self.opened()
 
+    def ports_used(self, devices: Set[str]) -> Dict[str, Port]:
+        """The ports of a member that are there; for one that is not, the way that the table has, so that this goes on as it was."""
+        found = {name: port for name, port in self.member.ports.items() if name not in self.missing}
+        if self.missing:
+            text = run(["nft", "-j", "list", "table", "netdev", "bz"], may_fail=True)
+            try:
+                ways = plane.ways_of(json.loads(text)) if text.strip() else {}
+            except (KeyError, TypeError, ValueError):
+                ways = {}
+            for name in self.missing:
+                way = ways.get(self.member.ports[name].number)
+                if way is not None and way.device in devices:
+                    found[name] = self.member.ports[name]._replace(device=way.device, via=way.via, mac="")
+        return found
+
     def port_lines(self, name: str) -> List[str]:
         """What a port wants, and loses while it is down: its address and its neighbour."""
-        port = self.member.ports[name]
+        port = self.used[name]
         lines = [f"address replace fe80::{self.member.number:x}/64 dev {port.device} nodad"]
         return [*lines, f"neigh replace {port.via} lladdr {port.mac} dev {port.device} nud permanent"] if port.mac else lines
 
@@ -90,7 +107,7 @@ class Linux:
             said.append(f"this router has no device {devices}: the topology is not that of the routers; enroll the right ports")
         for name in sorted(self.silent):
             port = self.member.ports[name]
-            said.append(f"{name} does not answer at {port.via} on {port.device}: is its agent there, and the cable in the right port?")
+            said.append(f"{name} does not answer at {port.via} on {port.device}: does its agent run, and is the cable in the right port?")
         return "; ".join(said)
 
     def ask_neighbours(self) -> None:
@@ -116,8 +133,8 @@ class Linux:
         return f"of_{zlib.crc32(self.member.text().encode()):08x}"
 
     def base(self) -> List[str]:
-        ways = {port.number: plane.Way(port.via, port.device) for name, port in self.member.ports.items() if name not in self.missing}
-        return plane.table(ways, self.member.label, self.mark())
+        used = {port.number: plane.Way(port.via, port.device) for port in self.used.values()}
+        return plane.table({port.number: used.get(port.number) for port in self.member.ports.values()}, self.member.label, self.mark())
 
     def nft(self, lines: List[str]) -> None:
         run(["nft", "-f", "-"], "\n".join(lines) + "\n")
@@ -135,7 +152,7 @@ class Linux:
         except (KeyError, TypeError, ValueError):
             return Held(is_ours=False)
         wanted = {self.mark(): 0, "mine": 1, "in": 5, "stamp": 1 if found.stamped else 0}
-        wanted.update({f"to_{port.number}": 2 for name, port in self.member.ports.items() if name not in self.missing})
+        wanted.update({f"to_{port.number}": 2 if name in self.used else 1 for name, port in self.member.ports.items()})
         return Held(rows, found.stamped, 0, found.rules == wanted)
 
     def elements(self, tag: int, row: Row) -> str:
@@ -164,7 +181,7 @@ class Linux:
         try:
             return ["add " + self.elements(tag, row) for tag, row in rows.items() if row]
         except KeyError as fault:
-            raise KernelError(f"a row goes to {fault}, to which this router has no port: enroll the topology of the routers") from None
+            raise KernelError(f"a row forwards to {fault}, for which this router has no port: enroll the topology of the routers") from None
 
     def removed(self, held: Held, tags: List[int]) -> List[str]:
         return ["delete " + self.elements(tag, held.rows[tag]) for tag in tags if held.rows.get(tag)]
@@ -175,7 +192,7 @@ class Ports:
 
     def __init__(self, kernel: Linux, changed: Callable[[FrozenSet[str]], None]) -> None:
         self.kernel, self.changed = kernel, changed
-        self.devices = {port.device: name for name, port in kernel.member.ports.items()}
+        self.devices = {kernel.used.get(name, port).device: name for name, port in kernel.member.ports.items()}
         self.down: Set[str] = set()
         self.sock = socket.socket(socket.AF_NETLINK, socket.SOCK_RAW | socket.SOCK_NONBLOCK, socket.NETLINK_ROUTE)
         self.sock.setsockopt(socket.SOL_SOCKET, socket.SO_RCVBUF, RECEIVED)

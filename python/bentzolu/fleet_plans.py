@@ -37,7 +37,7 @@ def rows_of(spec: Spec, config: Dict[str, str]) -> List[Tuple[str, str]]:
     shape = fleet.shape_of(text, form)
     cut, gone = fleet.leaves_of(shape, frozenset(spec.without), frozenset(spec.cut))
     if cut != tuple(sorted(spec.cut)) or not fleet.reaches_all(shape, gone):
-        raise FleetError(f"without {', '.join(' '.join(it) for it in sorted(gone))} some node is alone")
+        raise FleetError(f"without {', '.join(' '.join(it) for it in sorted(gone))} the network is not connected")
     left, kind = text_without(text, form, sorted(gone)), spec.kind
     if kind == "tree":  # labels that stay are no tree's own: so the tree's links alone, and the shortest ways over them
         tree, _ = plan_of(left, form, kind, [f"--root={order.split()[0]}"])
@@ -45,7 +45,7 @@ def rows_of(spec: Spec, config: Dict[str, str]) -> List[Tuple[str, str]]:
         left, kind = text_without(left, form, sorted(shape.links - gone - kept)), "shortest"
     plan, found = plan_of(left, form, kind, [], order)
     if [node for node, _ in sorted(plan.labels.items(), key=lambda it: int(it[1]))] != order.split():
-        raise FleetError("the plan numbers nodes otherwise than they were enrolled: enroll the topology again")
+        raise FleetError("the plan numbers the nodes in another way than they were enrolled: enroll the topology again")
     return [(str(node), fleet.row_text(found[node])) for node in plan.nodes]
 
 

@@ -27,6 +27,7 @@ from .fleet_plans import rows_of
 FAULTS = (EtcdError, OSError, EOFError, ValueError, KeyError)
 READY = ("told", "leads", "follows")
 LOCK = "/run/bentzolu/agent.lock"
+LEAP = 5.0  # seconds by which a clock jumps
 
 
 class Systemd:
@@ -76,6 +77,7 @@ class Runner:
         self.tasks: Dict[int, Tuple["asyncio.Task[None]", Optional[asyncio.TimerHandle]]] = {}
         self.waking: Optional[asyncio.TimerHandle] = None
         self.systemd, self.is_ready = Systemd(), False
+        self.apart = time.time() - time.monotonic()
         self.threads = ThreadPoolExecutor(1)
         self.ended: "asyncio.Future[str]" = self.loop.create_future()
 
@@ -133,7 +135,7 @@ class Runner:
         """A call has no answer in time."""
         if number in self.tasks:
             self.tasks[number][0].cancel()
-            self.failed(number, f"{self.etcd.endpoint} gives no answer in {seconds:g} s")
+            self.failed(number, f"{self.etcd.endpoint} gave no answer within {seconds:g} s")
 
     def watch(self, number: int, spans: Sequence[Span], revision: int) -> None:
         """Follows ranges."""
@@ -170,8 +172,17 @@ class Runner:
     def woken(self) -> None:
         """The time is there."""
         self.waking = None
+        self.look_at_clock()
         if self.machine is not None:
             self.guarded(self.machine.woken)
+
+    def look_at_clock(self) -> None:
+        """Tells that the clock of the day jumped, by which nothing here goes but the judgement of certificates."""
+        apart = time.time() - time.monotonic()
+        if abs(apart - self.apart) >= LEAP:
+            self.log("clock", why=f"this machine's clock jumped by {apart - self.apart:+.0f} s, or the machine slept: set the clock right, since "
+                                  f"certificates are judged by it; nothing else here goes by it")
+        self.apart = apart
 
     def tell(self, what: str, **about: Any) -> None:
         """A line of the log; the first one that says that all is well goes to systemd."""
@@ -238,13 +249,13 @@ def lock(path: str) -> Any:
         fcntl.flock(handle, fcntl.LOCK_EX | fcntl.LOCK_NB)
     except OSError:
         handle.close()
-        raise fleet.FleetError(f"another agent runs at this router, and has {path}: stop it, or this one") from None
+        raise fleet.FleetError(f"another agent runs on this router and holds {path}: stop it, or this one") from None
     return handle
 
 
-async def run_agent(node: str, etcd: Etcd, log: Callable[..., None], times: AgentTimes) -> str:
+async def run_agent(node: str, etcd: Etcd, log: Callable[..., None], times: AgentTimes, kernel: Linux) -> str:
     """Runs an agent until a signal; answers why it can't go on, or nothing. The kernel stays as it is."""
-    runner, kernel = Runner(etcd, log), Linux()
+    runner = Runner(etcd, log)
     agent = runner.machine = Agent(node, runner, kernel, uuid.uuid4().hex[:12], host_of(), times)
     changes = Changes(agent.doubt)
     runner.loop.add_reader(changes.sock, changes.read)

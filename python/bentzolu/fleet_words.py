@@ -11,22 +11,27 @@ import secrets
 import socket
 import sys
 import time
-from typing import Any, Callable, Coroutine, Dict, List, Optional, Sequence, Tuple
+from typing import Any, Callable, Coroutine, Dict, List, Optional, Sequence, Tuple, TypeVar
 
 from . import fleet, plane
 from .fleet import FleetError, Member, Port, State, Want
 from .fleet_agent import AgentTimes
 from .fleet_calls import Compare, Created, Done, Equals, Get, Put, Txn, under
 from .fleet_etcd import Access, Etcd, EtcdError, b64, password_of
+from .fleet_kernel import Linux
+from .fleet_plane import Plane
 from .fleet_plans import order_of
 from .fleet_run import LOCK, Log, lock, run, run_agent, run_controller
+from .xdp import MODES, PINS
 
 CONFIG = "/etc/bentzolu/fleet.conf"
 DESK_WAIT = 10.0  # seconds for an answer of one endpoint
+BUSY = ("request timed out", "leader changed", "no leader", "too many requests")  # what etcd says when it has much to do
+TRIES, REST = 6, 1.0  # of a call that etcd was too busy for, and the seconds between two
 SPANS = [*(under(it) for it in (fleet.NET, fleet.LIVE, fleet.MEMBERS, fleet.CONFIG)), (fleet.LEADER, None)]
 KNOWN = {
     "etcd": {"endpoints", "ca", "certificate", "key", "user", "password-file"},
-    "agent": {"node", "lock", "lease", "probe", "look", "call", "lazy"},
+    "agent": {"node", "plane", "pins", "lock", "lease", "probe", "look", "call", "lazy"},
     "controller": {"name", "lease", "grace", "patience", "hold"},
     "log": {"format"},
 }
@@ -41,14 +46,14 @@ class Config:
             with open(path, encoding="utf-8") as file:
                 self.found.read_file(file)
         except OSError as fault:
-            raise FleetError(f"{path}: {fault.strerror}; name the configuration by --config FILE") from None
+            raise FleetError(f"{path}: {fault.strerror}; give the configuration by --config FILE") from None
         except (configparser.Error, ValueError) as fault:
-            raise FleetError(f"{path} is no configuration: {str(fault).splitlines()[0]}") from None
+            raise FleetError(f"{path} is not a configuration: {str(fault).splitlines()[0]}") from None
         for section in self.found.sections():
             for name in self.found[section]:
                 if name not in KNOWN.get(section, set()):
                     known = ", ".join(sorted(KNOWN[section])) if section in KNOWN else ""
-                    raise FleetError(f"{path}: nothing is known of {name} in [{section}]" + (f"; it has {known}" if known else ""))
+                    raise FleetError(f"{path}: unknown setting {name} in [{section}]" + (f"; known are {known}" if known else ""))
 
     def word(self, section: str, name: str) -> Optional[str]:
         """A value, or None where it is not given."""
@@ -59,7 +64,7 @@ class Config:
         """A value; FleetError where it is not given."""
         found = self.word(section, name)
         if found is None:
-            raise FleetError(f"{self.path} has no {name} in [{section}]: give it")
+            raise FleetError(f"{self.path} lacks {name} in [{section}]")
         return found
 
     def seconds(self, section: str, name: str, usual: float, least: float) -> float:
@@ -70,7 +75,7 @@ class Config:
         except ValueError:
             found = -1.0
         if not least <= found <= 86400:
-            raise FleetError(f"{self.path}: {name} in [{section}] is {word!r}; give seconds, {least:g} or more")
+            raise FleetError(f"{self.path}: {name} in [{section}] is {word!r}; give at least {least:g} seconds")
         return found
 
     def file(self, name: str) -> Optional[str]:
@@ -103,12 +108,20 @@ class Config:
 def agent(words: argparse.Namespace) -> int:
     """`agent`: runs until a signal."""
     config = Config(words.config)
-    node = config.need("agent", "node")
+    node, kernel = config.need("agent", "node"), kernel_of(config)
     held = lock(config.word("agent", "lock") or LOCK)
     times = AgentTimes(int(config.seconds("agent", "lease", 15, 2)), config.seconds("agent", "probe", 2, 0.2), config.seconds("agent", "call", 2, 0.2),
                        config.seconds("agent", "look", 30, 1), config.seconds("agent", "lazy", 5, 0))
     with held:
-        return run(later(lambda: run_agent(node, config.etcd(), config.log(node), times)))
+        return run(later(lambda: run_agent(node, config.etcd(), config.log(node), times, kernel)))
+
+
+def kernel_of(config: Config) -> Linux:
+    """The kernel as the section `agent` wants it: by nftables, or by the plane in XDP in one of its modes."""
+    mode, pins = config.word("agent", "plane") or "nft", config.word("agent", "pins") or PINS
+    if mode not in ("nft", *MODES):
+        raise FleetError(f"{config.path}: plane in [agent] is {mode!r}; give nft, xdp, generic or tc")
+    return Linux() if mode == "nft" else Plane(mode, pins)
 
 
 def controller(words: argparse.Namespace) -> int:
@@ -129,6 +142,21 @@ async def later(act: Callable[[], Coroutine[Any, Any, Any]]) -> Any:
     return await act()
 
 
+Answered = TypeVar("Answered")
+
+
+async def again(act: Callable[[], Coroutine[Any, Any, Answered]]) -> Answered:
+    """What a call answers; one that etcd was too busy for is made again, since all that is asked here may be done twice."""
+    for _ in range(TRIES - 1):
+        try:
+            return await act()
+        except EtcdError as fault:
+            if not any(it in str(fault) for it in BUSY):
+                raise
+            await asyncio.sleep(REST)
+    return await act()
+
+
 class Desk:
     """etcd as the words `fleet ..` ask it: each call in turn, at each endpoint until one answers."""
 
@@ -140,7 +168,7 @@ class Desk:
         why = ""
         for _ in self.etcd.access.endpoints:
             try:
-                return await asyncio.wait_for(self.etcd.txn(Txn(tuple(compare), tuple(then))), DESK_WAIT)
+                return await again(lambda: asyncio.wait_for(self.etcd.txn(Txn(tuple(compare), tuple(then))), DESK_WAIT))
             except EtcdError as fault:
                 raise FleetError(str(fault)) from None
             except (OSError, EOFError, ValueError, asyncio.TimeoutError) as fault:
@@ -180,7 +208,7 @@ def read_topology(path: str, form: Optional[str]) -> Tuple[str, str]:
     try:
         return pathlib.Path(path).read_text(encoding="ascii"), found
     except (OSError, ValueError) as fault:
-        raise FleetError(f"{path} can't be read ({fault}): a topology of ASCII is wanted") from None
+        raise FleetError(f"{path} can't be read ({fault}): a topology must be ASCII") from None
 
 
 def read_ports(path: Optional[str]) -> Dict[Tuple[str, str], Tuple[str, str, str]]:
@@ -198,7 +226,7 @@ def read_ports(path: Optional[str]) -> Dict[Tuple[str, str], Tuple[str, str, str
             continue
         if not 3 <= len(words) <= 5 or not all(it.replace("-", "").replace("_", "").replace(".", "").replace(":", "").isalnum() or it == "-"
                                                for it in words[2:]):
-            raise FleetError(f"{path}: line {at}: write NODE NEIGHBOUR DEVICE, and where they are known ADDRESS or -, and MAC")
+            raise FleetError(f"{path}: line {at}: write NODE NEIGHBOUR DEVICE, then ADDRESS (or -) and MAC if they are known")
         node, other, device, via, mac = [*words, "-", ""][:5] if len(words) < 5 else words
         found[node, other] = device, "" if via == "-" else via, "" if mac == "-" else mac
     return found
@@ -213,7 +241,7 @@ def members_of(nodes: List[str], shape: fleet.Shape, ports: Dict[Tuple[str, str]
         near[other].append(one)
     for pair in ports:
         if fleet.link_of(*pair) not in shape.links:
-            raise FleetError(f"the ports name {' '.join(pair)}, which is no link of the topology")
+            raise FleetError(f"the ports name {' '.join(pair)}, which is not a link of the topology")
     for node in nodes:
         mine = {}
         for other in near[node]:
@@ -235,11 +263,11 @@ async def enroll(words: argparse.Namespace) -> int:
     before = texts.get(fleet.ORDER, "").split()
     missing = [node for node in before if node not in shape.nodes]
     if missing:
-        raise FleetError(f"{', '.join(missing)} was enrolled, and the topology lacks it: keep it with a link, and say `fleet gone` of it")
+        raise FleetError(f"{', '.join(missing)} was enrolled, but is not in the topology: keep it with a link, and run `fleet gone` for it")
     nodes = before + [node for node in order if node not in before]
     tags = words.tags or state.tags
     if not 3 <= tags <= fleet.MOST_TAGS or before and tags != state.tags:
-        raise FleetError(f"--tags is 3 to {fleet.MOST_TAGS}, and does not change later")
+        raise FleetError(f"--tags must be from 3 to {fleet.MOST_TAGS}, and cannot change later")
     members = members_of(nodes, shape, read_ports(words.ports))
     pairs = [(fleet.MEMBERS + node, member.text()) for node, member in members.items()]
     config = [(fleet.TAGS, str(tags)), (fleet.FORM, form), (fleet.ORDER, "".join(f"{node}\n" for node in nodes)), (fleet.TOPOLOGY, text)]
@@ -255,19 +283,19 @@ async def want(words: argparse.Namespace) -> int:
     for _ in range(10):
         state, texts, _ = await desk.state()
         if state.shape is None:
-            raise FleetError("nothing is enrolled yet: say `fleet enroll TOPOLOGY`")
+            raise FleetError("nothing is enrolled yet: run `fleet enroll TOPOLOGY`")
         without = tuple(sorted(fleet.link_of(*it) for it in words.without))
         for link in without:
             if link not in state.shape.links:
                 raise FleetError(f"no link: {' '.join(link)}")
         if not fleet.reaches_all(state.shape, frozenset(without)):
-            raise FleetError("without these links some node is alone: leave one of them in")
+            raise FleetError("the network is not connected without these links: leave one of them in")
         old = texts.get(fleet.WANT)
         new = Want(words.kind, without, state.want.gone if state.want else frozenset()).text()
         if await desk.put([(fleet.WANT, new)], [Created(fleet.WANT, 0) if old is None else Equals(fleet.WANT, old)]):
             print(f"wanted {words.kind}" + "".join(f" without {' '.join(it)}" for it in without))
             return await until_stamped(desk, words.wait) if words.wait else 0
-    raise FleetError("others write what is wanted all the time: say it again")
+    raise FleetError("others keep changing what is requested: try again")
 
 
 async def until_stamped(desk: Desk, seconds: float) -> int:
@@ -282,7 +310,7 @@ async def until_stamped(desk: Desk, seconds: float) -> int:
             return 0
         await asyncio.sleep(0.1)
     state, texts, _ = await desk.state()
-    raise FleetError(f"not in {seconds:g} s: " + ("; ".join(status_json(state, texts.get(fleet.LEADER))["waits"]) or "it goes on"))
+    raise FleetError(f"not done within {seconds:g} s: " + ("; ".join(status_json(state, texts.get(fleet.LEADER))["waits"]) or "it continues"))
 
 
 async def gone(words: argparse.Namespace) -> int:
@@ -293,16 +321,16 @@ async def gone(words: argparse.Namespace) -> int:
         if words.node not in state.members:
             raise FleetError(f"no member {words.node}")
         if state.want is None:
-            raise FleetError("nothing is wanted yet: say `fleet want`")
+            raise FleetError("no plan is requested yet: run `fleet want`")
         if not words.back and words.node in state.live:
-            raise FleetError(f"the agent of {words.node} is there: switch the router off, so that it forwards nothing by old rows, and "
+            raise FleetError(f"the agent of {words.node} is running: switch the router off, so that it forwards nothing by old rows, and "
                              f"wait for its lease")
         names = state.want.gone - {words.node} if words.back else state.want.gone | {words.node}
         new = Want(state.want.kind, state.want.without, frozenset(names)).text()
         if await desk.put([(fleet.WANT, new)], [Equals(fleet.WANT, texts[fleet.WANT])]):
             print(f"gone {' '.join(sorted(names)) or '-'}")
             return 0
-    raise FleetError("others write what is wanted all the time: say it again")
+    raise FleetError("others keep changing what is requested: try again")
 
 
 async def restored(words: argparse.Namespace) -> int:
@@ -325,7 +353,7 @@ async def users(words: argparse.Namespace) -> int:
     desk, folder = Desk(config), pathlib.Path(words.folder)
     state, _, _ = await desk.state()
     if not state.members:
-        raise FleetError("nothing is enrolled yet: say `fleet enroll TOPOLOGY`")
+        raise FleetError("nothing is enrolled yet: run `fleet enroll TOPOLOGY`")
     folder.mkdir(mode=0o700, parents=True, exist_ok=True)
     everything: List[Tuple[str, List[Tuple[str, str, Optional[str]]]]] = [("root", [])] if not desk.etcd.access.user else []
     everything += [(f"agent-{node}", [("READ", *under(fleet.NET)), ("READ", *under(f"{fleet.ROWS}{node}/")), ("READ", fleet.MEMBERS + node, None),
@@ -336,7 +364,7 @@ async def users(words: argparse.Namespace) -> int:
     for name, rights in everything:
         await user(desk.etcd, folder, name, rights)
     if not desk.etcd.access.user:
-        await desk.etcd.post("/v3/auth/enable", {})
+        await post(desk.etcd, "enable")
     print(f"users {len(everything)} in {folder}")
     return 0
 
@@ -358,7 +386,7 @@ async def user(etcd: Etcd, folder: pathlib.Path, name: str, rights: Sequence[Tup
 
 async def post(etcd: Etcd, what: str, **words: Any) -> None:
     try:
-        await etcd.post(f"/v3/auth/{what}", words)
+        await again(lambda: etcd.post(f"/v3/auth/{what}", words))
     except EtcdError as fault:
         if "already exist" not in str(fault) and "already granted" not in str(fault):
             raise
@@ -473,36 +501,36 @@ def at_desk(act: Callable[[argparse.Namespace], Coroutine[Any, Any, int]]) -> Ca
 
 def add_words(commands: Any) -> None:
     """Adds the words `agent`, `controller` and `fleet` to a parser's commands."""
-    for name, act, what in (("agent", agent, "makes this router forward by the fleet's epochs"), ("controller", controller, "makes a fleet's plans")):
+    for name, act, what in (("agent", agent, "make this router forward by the fleet's epochs"), ("controller", controller, "make the plans of a fleet")):
         parser = commands.add_parser(name, help=what, description=f"{what[0].upper()}{what[1:]}, until it is stopped. See docs/FLEET.md.")
-        parser.add_argument("--config", metavar="FILE", default=CONFIG, help=f"the configuration ({CONFIG})")
+        parser.add_argument("--config", metavar="FILE", default=CONFIG, help=f"configuration file (default: {CONFIG})")
         parser.set_defaults(act=act)
-    parser = commands.add_parser("fleet", help="routers on many machines: what is wanted of them, and what they do", description="See docs/FLEET.md.")
+    parser = commands.add_parser("fleet", help="set and show what routers on many machines do", description="See docs/FLEET.md.")
     parts = parser.add_subparsers(dest="part", required=True, metavar="PART")
 
     def part(name: str, what: str, act: Callable[[argparse.Namespace], Coroutine[Any, Any, int]]) -> argparse.ArgumentParser:
         found: argparse.ArgumentParser = parts.add_parser(name, help=what, description=f"{what[0].upper()}{what[1:]}.")
-        found.add_argument("--config", metavar="FILE", default=CONFIG, help=f"the configuration ({CONFIG})")
+        found.add_argument("--config", metavar="FILE", default=CONFIG, help=f"configuration file (default: {CONFIG})")
         found.set_defaults(act=at_desk(act))
         return found
 
-    found = part("enroll", "names the routers of a topology, their labels and their ports", enroll)
-    found.add_argument("topology", metavar="TOPOLOGY", help="a topology of route; a name that ends in .edgelist or .wel is an edge list's")
-    found.add_argument("--format", choices=("adjlist", "edgelist"), help="the topology's format")
-    found.add_argument("--root", metavar="R", help="the node from which labels are numbered, at the first time")
-    found.add_argument("--ports", metavar="FILE", help="lines NODE NEIGHBOUR DEVICE [ADDRESS|- [MAC]]; without it devices are called toK")
-    found.add_argument("--tags", metavar="N", type=int, help=f"how many tags go round, at the first time ({fleet.MOST_TAGS})")
-    found = part("want", "says what the next plan is for", want)
-    found.add_argument("--kind", choices=fleet.KINDS, required=True, help="how packets are routed")
-    found.add_argument("--without", nargs=2, metavar=("A", "B"), action="append", default=[], help="a link to go without; again for further ones")
-    found.add_argument("--wait", metavar="S", type=float, help="waits until all routers stamp it, for so many seconds at most")
-    found = part("status", "shows members, epochs, the phase, and who is waited for", status)
-    found.add_argument("--watch", action="store_true", help="goes on, and shows it anew when it changes")
-    found.add_argument("--json", action="store_true", help="as an object of JSON, a line each")
-    found = part("gone", "says that a router is gone for good, so that nobody waits for it", gone)
+    found = part("enroll", "enroll the routers of a topology, their labels and their ports", enroll)
+    found.add_argument("topology", metavar="TOPOLOGY", help="topology file; an edge list if its name ends in .edgelist or .wel")
+    found.add_argument("--format", choices=("adjlist", "edgelist"), help="format of the topology")
+    found.add_argument("--root", metavar="R", help="node from which labels are numbered (first enrolment only)")
+    found.add_argument("--ports", metavar="FILE", help="file of lines NODE NEIGHBOUR DEVICE [ADDRESS|- [MAC]] (default: the devices are toK)")
+    found.add_argument("--tags", metavar="N", type=int, help=f"number of tags (first enrolment only; default: {fleet.MOST_TAGS})")
+    found = part("want", "set the kind and the links of the next plan", want)
+    found.add_argument("--kind", choices=fleet.KINDS, required=True, help="kind of the plan")
+    found.add_argument("--without", nargs=2, metavar=("A", "B"), action="append", default=[], help="leave out this link; give it again for more links")
+    found.add_argument("--wait", metavar="S", type=float, help="wait at most S seconds until all routers stamp it")
+    found = part("status", "show members, epochs, the phase, and who is waited for", status)
+    found.add_argument("--watch", action="store_true", help="keep running, and show each change")
+    found.add_argument("--json", action="store_true", help="print JSON, one object on each line")
+    found = part("gone", "mark a router as gone for good, so that nobody waits for it", gone)
     found.add_argument("node", metavar="NODE", help="the router")
-    found.add_argument("--back", action="store_true", help="that it is back")
-    found = part("restored", "raises the counter after etcd was restored from a backup", restored)
-    found.add_argument("--leap", metavar="N", type=int, default=1000, help="more epochs than were begun since the backup (1000)")
-    found = part("users", "makes a user, a role and a password for each router, the controllers and the operator", users)
-    found.add_argument("folder", metavar="FOLDER", help="where the passwords go, a file each")
+    found.add_argument("--back", action="store_true", help="the router is back")
+    found = part("restored", "raise the counter after etcd was restored from a backup", restored)
+    found.add_argument("--leap", metavar="N", type=int, default=1000, help="a number above that of the epochs begun since the backup (default: 1000)")
+    found = part("users", "make a user, a role and a password for each router, the controllers and the operator", users)
+    found.add_argument("folder", metavar="FOLDER", help="folder for the passwords, one file each")

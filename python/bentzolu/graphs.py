@@ -29,7 +29,7 @@ class Edges:
             u, v, *more = edge if not isinstance(edge, str) else ()
             hash((u, v))
         except (TypeError, ValueError):
-            raise GraphError(f"{edge!r} is no edge (u, v) or (u, v, weight)") from None
+            raise GraphError(f"{edge!r} is not an edge (u, v) or (u, v, weight)") from None
         if len(more) > 1:
             raise GraphError(f"the edge {edge!r} has more than two nodes and a weight")
         data = {} if not more else dict(more[0]) if isinstance(more[0], dict) else {"weight": more[0]}
@@ -62,7 +62,7 @@ def graph_of(given: Any) -> Graph:
         return given
     if isinstance(given, dict) or not hasattr(given, "__iter__"):
         raise GraphError(
-            f"{type(given).__name__} is no graph: give a graph of NetworkX, the path of a file, "
+            f"{type(given).__name__} is not a graph: give a graph of NetworkX, the path of a file, "
             "or a list of edges (u, v) or (u, v, weight)"
         )
     return Edges(given)
@@ -72,11 +72,11 @@ def refuse_kinds(graph: Graph) -> None:
     """Refuses directed graphs and multigraphs."""
     if graph.is_directed():
         raise DirectedGraphError(
-            "route has no directed links: give G.to_undirected(), which keeps one weight where the two directions differ"
+            "directed graphs are not supported: give G.to_undirected(), which keeps one weight where the two directions differ"
         )
     if graph.is_multigraph():
         raise MultigraphError(
-            "route has one link between two nodes: give networkx.Graph(G), which keeps one of several edges and its weight"
+            "multigraphs are not supported: give networkx.Graph(G), which keeps one of several edges and its weight"
         )
 
 
@@ -105,15 +105,15 @@ def advice(weights: list[Any]) -> str:
     read = [None if isinstance(weight, (str, bytes)) else as_fraction(weight) for weight in weights]
     found = [weight for weight in read if weight is not None]
     if len(found) < len(read):
-        return "each weight has to be a number"
+        return "every weight must be a number"
     if min(found) <= 0:
-        return "no factor helps a weight that is 0 or less: shift the weights, or leave these edges out"
+        return "no factor makes a weight of 0 or less positive: shift the weights, or leave these edges out"
     exact = factor_for(found)
     if exact is not None:
         return f"all weights times {exact} are whole: bentzolu.scaled(G, {exact})"
     factor = float(MOST_WEIGHT / max(found))
     factor = math.floor(factor) if factor >= 2 else float(f"{factor:.3g}") * 0.99
-    return f"bentzolu.scaled(G, {factor:g}) multiplies and rounds, which can change which paths are shortest"
+    return f"bentzolu.scaled(G, {factor:g}) multiplies and rounds, which can change the shortest paths"
 
 
 def whole(weight: Any) -> int | None:
@@ -132,7 +132,7 @@ def weights_of(graph: Graph, weight: str | None) -> list[tuple[Node, Node, int]]
         number = whole(given)
         if number is None:
             raise WeightError(
-                f"the edge from {u!r} to {v!r} has weight {given!r}, and route takes whole numbers from 1 to {MOST_WEIGHT}; "
+                f"the edge from {u!r} to {v!r} has weight {given!r}, but weights must be whole numbers from 1 to {MOST_WEIGHT}; "
                 + advice([it for _, _, it in edges])
             )
         found.append((u, v, number))
@@ -172,7 +172,7 @@ def scaled(graph: Graph, factor: float | Fraction, weight: str = "weight") -> Gr
     """
     times = as_fraction(factor)
     if times is None:
-        raise WeightError(f"the factor {factor!r} is no number")
+        raise WeightError(f"the factor {factor!r} is not a number")
     copy = graph.copy()
     for _, _, data in copy.edges(data=True):
         if weight in data:

@@ -19,8 +19,9 @@ from .lab_space import apart
 from .lab_traffic import Traffic, watch
 from .lab_xdp import MODES, XdpNetwork
 from .label_ranges import check_ranges, read_ranges
+from .options import add_detour, detour_words
 
-KINDS = ("tree", "shortest", "compact")
+KINDS = ("tree", "shortest", "compact", "landmark")
 MOST_NODES, MOST_CHANGES = 256, 1000
 MOST_EPOCHS = 64  # of a script of the program
 MOST_LINKS_OF_A_WALK = 250  # hop limits start with 255
@@ -28,30 +29,31 @@ PAUSE, PAUSE_IN_PLACE = 0.02, 0.1  # seconds between two nodes
 WAIT = 0.3  # seconds that packets of the old epoch have at least
 SCRIPTS = "/run/bentzolu"  # with --run; in the lab's own mounts
 
-ABOUT = """Builds a network of Linux's network namespaces, sends packets of UDP between all pairs of nodes and one
-connection of TCP, changes the plan of the network meanwhile from one epoch to the next, and tells of each packet whether it
-arrived, and by the walk of its epoch. Everything that it makes is gone when it ends, however it ends. It wants Linux, root,
-iproute2 and nftables, and the program route. Status 0: no packet was lost or mixed; 1: one was, or the lab cannot be built;
-2: the words were not understood. With --plane it takes the plane in BPF in place of nftables, which plane/make builds."""
+ABOUT = """Build a network of Linux network namespaces. Send UDP packets between all pairs of nodes and one TCP connection. Change
+the plan of the network meanwhile, and report of each packet whether it arrived, and by the path of its epoch. Everything is
+removed at the end, however the lab ends. This needs Linux, root, iproute2, nftables and the program. --plane uses the BPF plane,
+which plane/make builds, instead of nftables. Exit status: 0 no packet was lost or mixed; 1 one was, or the lab cannot be built;
+2 the arguments were not understood."""
 
 
 def add_words(commands):
     """Adds the words of `lab` to a parser's commands."""
-    parser = commands.add_parser("lab", help="changes a network's plan under real packets in Linux, and judges each of them", description=ABOUT)
-    parser.add_argument("topology", metavar="TOPOLOGY", help="a topology of route; a name that ends in .edgelist or .wel is an edge list's")
-    parser.add_argument("--kind", choices=KINDS, default="tree", help="the kind of the first plan (tree)")
-    parser.add_argument("--to", choices=KINDS, default="shortest", help="the kind of the second plan (shortest)")
-    parser.add_argument("--root", metavar="R", help="the root of both; the topology's first node by default")
-    parser.add_argument("--numbering", metavar="FILE", help="a file with the nodes in the order of their labels, for both; not with --root")
-    parser.add_argument("--plane", choices=("nft", *MODES), default="nft", help="what forwards: nftables (nft), or the plane in BPF as xdp, generic or tc")
-    parser.add_argument("--changes", metavar="N", type=int, default=1, help="so many changes, from the one plan to the other and back (1)")
-    parser.add_argument("--rate", metavar="P", type=int, default=500, help="packets of UDP a second (500)")
-    parser.add_argument("--seconds", metavar="S", type=float, default=1, help="seconds of traffic before the change and behind it, at least (1)")
-    parser.add_argument("--seed", metavar="S", type=int, default=1, help="for the orders of nodes and pairs (1)")
-    parser.add_argument("--in-place", action="store_true", help="replaces the tables of the first epoch, node by node: packets get lost and mixed")
-    parser.add_argument("--down", nargs=2, metavar=("A", "B"), help="a link that goes down under traffic; the second plan goes without it")
-    parser.add_argument("--print", action="store_true", help="prints the script of the shell that builds and changes it, and touches nothing")
-    parser.add_argument("--run", metavar="COMMAND", help="in place of the traffic and the change: builds the first epoch and runs a command there, as bash")
+    parser = commands.add_parser("lab", help="change a network's plan under real packets in Linux, and judge each packet", description=ABOUT)
+    parser.add_argument("topology", metavar="TOPOLOGY", help="topology file; an edge list if its name ends in .edgelist or .wel")
+    parser.add_argument("--kind", choices=KINDS, default="tree", help="kind of the first plan (default: tree)")
+    parser.add_argument("--to", choices=KINDS, default="shortest", help="kind of the second plan (default: shortest)")
+    parser.add_argument("--root", metavar="R", help="root of both plans (default: the first node)")
+    parser.add_argument("--numbering", metavar="FILE", help="file that lists the nodes in the order of their labels, for both plans; not with --root")
+    add_detour(parser)
+    parser.add_argument("--plane", choices=("nft", *MODES), default="nft", help="forward by nftables (nft, the default), or by the BPF plane as xdp, generic or tc")
+    parser.add_argument("--changes", metavar="N", type=int, default=1, help="number of changes, from one plan to the other and back (default: 1)")
+    parser.add_argument("--rate", metavar="P", type=int, default=500, help="UDP packets per second (default: 500)")
+    parser.add_argument("--seconds", metavar="S", type=float, default=1, help="least seconds of traffic before and after the change (default: 1)")
+    parser.add_argument("--seed", metavar="S", type=int, default=1, help="seed for the order of nodes and pairs (default: 1)")
+    parser.add_argument("--in-place", action="store_true", help="replace the tables of the first epoch node by node, so that packets are lost and mixed")
+    parser.add_argument("--down", nargs=2, metavar=("A", "B"), help="take this link down under traffic; the second plan does without it")
+    parser.add_argument("--print", action="store_true", help="print the shell script that builds and changes the network, and change nothing")
+    parser.add_argument("--run", metavar="COMMAND", help="build the first epoch and run a command there, such as bash, instead of traffic and change")
     parser.set_defaults(act=lambda found: main(found, parser))
 
 
@@ -131,50 +133,75 @@ def is_connected(nodes, links):
     return len(reached) == len(near)
 
 
-def second_plan(words, text, form, first):
-    """The plan that is changed to, and its ranges. With a link down it is made without the link, under the labels of the
-    first."""
+def words_of(words, kind):
+    """The words of a plan of a kind: its root or its numbering, and those of kind landmark."""
     chosen = ["--root", words.root] if words.root else ["--numbering", words.numbering] if words.numbering else []
+    return [*chosen, *detour_words(words.landmarks, words.stretch)] if kind == "landmark" else chosen
+
+
+def text_left(words, text, form):
+    """The topology of the second plan: without the link that goes down, where one does."""
     if not words.down:
-        return plan_of(text, form, words.to, chosen)
+        return text
     links = links_of(text, form)
     if tuple(words.down) not in links and tuple(words.down[::-1]) not in links:
         raise LabError(f"no link: {' '.join(words.down)}")
     left = without_link(text, form, words.down)
-    if not is_connected(first.nodes, links_of(left, form)):
-        raise LabError(f"without the link {' '.join(words.down)} the network falls apart")
-    return plan_of(left, form, words.to, [], order_of(first))
+    if not is_connected({node for link in links for node in link}, links_of(left, form)):
+        raise LabError(f"without the link {' '.join(words.down)} the network is not connected")
+    return left
+
+
+def takes_labels(words):
+    """Whether the first plan has the labels of the second, and whether the second has those of the first: labels by landmarks are
+    both plans' own, and with a link down the first plan's labels stay."""
+    return words.to == "landmark" != words.kind, words.to != "landmark" and bool(words.down or words.kind == "landmark")
+
+
+def both_plans(words, text, form):
+    """The first plan and the one that is changed to, each with its ranges."""
+    of_second, of_first = takes_labels(words)
+    if of_second:
+        second = plan_of(text_left(words, text, form), form, words.to, words_of(words, words.to))
+        return plan_of(text, form, words.kind, [], order_of(second[0])), second
+    first = plan_of(text, form, words.kind, words_of(words, words.kind))
+    left = text_left(words, text, form)
+    if of_first:
+        return first, plan_of(left, form, words.to, [], order_of(first[0]))
+    return first, plan_of(left, form, words.to, words_of(words, words.to))
 
 
 def checked_plans(words, text, form):
     """Both plans by their epochs, and their ranges; LabError where they don't do for a lab."""
-    chosen = ["--root", words.root] if words.root else ["--numbering", words.numbering] if words.numbering else []
-    first, first_ranges = plan_of(text, form, words.kind, chosen)
-    second, second_ranges = second_plan(words, text, form, first)
+    (first, first_ranges), (second, second_ranges) = both_plans(words, text, form)
     plans = {1: first, 2: second}
     if not 2 <= len(first.nodes) <= MOST_NODES:
-        raise LabError(f"it wants 2 to {MOST_NODES} nodes")
+        raise LabError(f"the lab needs 2 to {MOST_NODES} nodes")
     if first.labels != second.labels:
-        raise LabError("these plans number nodes otherwise: give --numbering FILE")
+        other = "" if "landmark" in (words.kind, words.to) else ": give --numbering FILE"
+        raise LabError(f"the two plans number the nodes differently{other}")
     for plan in plans.values():
         if max(len(plan.path(a, b)) for a in plan.nodes for b in plan.nodes) > MOST_LINKS_OF_A_WALK:
-            raise LabError(f"a walk has more than {MOST_LINKS_OF_A_WALK} links")
+            raise LabError(f"a path has more than {MOST_LINKS_OF_A_WALK} links")
     return plans, {1: first_ranges, 2: second_ranges}
 
 
 def story_of(words, text, form, plans):
-    """What the lab does, as the program's judge reads it; None where no script has its second plan: under labels of a file,
-    or under those that stay without a link, its ways may be others than those of the plan that a script installs."""
+    """What the lab does, as the program's judge reads it; None where no script has its plans: under labels of a file, of the other
+    plan's landmarks, or those that stay without a link, their ways may be others than those of the plans that a script installs."""
     root = min(plans[1].labels, key=plans[1].labels.get)
     if words.numbering or words.changes >= MOST_EPOCHS:
         return None
     changes = [[f"install {(words.kind, words.to)[epoch % 2]} {root}"] for epoch in range(1, words.changes + 1)]
     if words.down:
         changes[0].insert(0, f"down {' '.join(words.down)}")
-        other, _ = plan_of(without_link(text, form, words.down), form, words.to, ["--root", root])
-        if any(other.path(a, b) != plans[2].path(a, b) for a in other.nodes for b in other.nodes if a != b):
+    made = (words.kind, text, plans[1]), (words.to, text_left(words, text, form), plans[2])
+    for kind, topology, plan in (it for it, takes in zip(made, takes_labels(words)) if takes):
+        other, _ = plan_of(topology, form, kind, ["--root", root])
+        if any(other.path(a, b) != plan.path(a, b) for a in other.nodes for b in other.nodes if a != b):
             return None
-    return Story(text, form, ("--kind", words.kind, "--root", root), tuple(map(tuple, changes)), ())
+    options = ("--kind", words.kind, "--root", root, *detour_words(words.landmarks, words.stretch))
+    return Story(text, form, options, tuple(map(tuple, changes)), ())
 
 
 def prepare(words):
@@ -341,7 +368,7 @@ def judged(lab):
             told.where = f"judging, {number} judged"
 
         if lab.story is None:
-            print("lab: no script of the program has these plans: their rows judge the packets", file=sys.stderr)
+            print("lab: no script of the program can make these plans, so the packets are judged by their rows", file=sys.stderr)
         judge = Judge(lab.network.nodes, lab.plans, lab.words.in_place, tuple(lab.words.down or ()), lab.story, tell)
         found = judge.judge(traffic.board.sent, pairs, frames, arrivals)
     return report(lab, found, traffic.board, (path[0], path[-1]))
@@ -367,19 +394,24 @@ def by_hand(lab):
 def refuse_words(words, parser):
     """Ends with status 2 where words don't go together."""
     if words.root and words.numbering:
-        parser.error("--root and --numbering do not go together: the first node of the file is the root")
+        parser.error("--root cannot be used with --numbering: the first node of the file is the root")
+    is_landmark = "landmark" in (words.kind, words.to)
+    if is_landmark and ("tree" in (words.kind, words.to) or words.numbering):
+        parser.error("kind landmark cannot be used with kind tree or --numbering: the landmarks number the nodes")
+    if not is_landmark and (words.landmarks is not None or words.stretch is not None):
+        parser.error("--landmarks and --stretch are only for kind landmark")
     if words.in_place and words.down:
-        parser.error("--in-place and --down do not go together")
+        parser.error("--in-place cannot be used with --down")
     if words.down and words.changes != 1:
-        parser.error("--down and --changes do not go together: the second plan is for the network without the link")
+        parser.error("--down cannot be used with --changes: the second plan is for the network without the link")
     if not 1 <= words.changes <= MOST_CHANGES:
-        parser.error(f"--changes is 1 to {MOST_CHANGES}")
+        parser.error(f"--changes must be from 1 to {MOST_CHANGES}")
     if words.print and words.run is not None:
-        parser.error("--print and --run do not go together")
+        parser.error("--print cannot be used with --run")
     if not 1 <= words.rate <= 100_000:
-        parser.error("--rate is 1 to 100000")
+        parser.error("--rate must be from 1 to 100000")
     if not 0 <= words.seconds <= 86_400:
-        parser.error("--seconds is 0 to 86400")
+        parser.error("--seconds must be from 0 to 86400")
 
 
 def stop(number, _):

@@ -71,7 +71,7 @@ def first_finding(story: Story, ways: Sequence[Way], weights: Dict[Tuple[str, st
         return len(ways), ""
     found = FINDING.fullmatch(said.output.strip())
     if not found or not 2 <= int(found[1]) < len(ways) + 2:
-        raise BentzoluError(f"the program does not judge the packets: {said.output.strip()}")
+        raise BentzoluError(f"the program did not judge the packets: {said.output.strip()}")
     return int(found[1]) - 2, found[2]
 
 

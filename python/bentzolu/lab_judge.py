@@ -2,9 +2,12 @@
 rows do."""
 from collections import defaultdict
 from dataclasses import dataclass, field
-from typing import Callable, Dict, Optional, Set, Tuple
+from typing import Any, Callable, Dict, List, Optional, Sequence, Set, Tuple
 
 from .lab_check import Story, Way, findings
+
+Pair = Tuple[int, int]  # the places of two nodes
+Hop = Tuple[int, int, int, int]  # hop limit with its sign turned, node, next node, epoch
 
 
 @dataclass
@@ -27,22 +30,22 @@ class Judge:
     """Walks of one or two plans, by epoch, between nodes that are told by their places in `nodes`; and the story that the
     program judges by, or None."""
 
-    nodes: list
-    plans: dict
+    nodes: List[str]
+    plans: Dict[int, Any]
     in_place: bool = False
-    down: tuple = ()
+    down: Tuple[str, ...] = ()
     story: Optional[Story] = None
     tell: Callable[[int], None] = lambda _: None
-    known: dict = field(default_factory=dict)
+    known: Dict[Tuple[int, Pair], List[int]] = field(default_factory=dict)
 
-    def walk(self, epoch, pair):
+    def walk(self, epoch: int, pair: Pair) -> List[int]:
         """The places of the nodes of a walk."""
         if (epoch, pair) not in self.known:
             path = self.plans[epoch].path(*(self.nodes[i] for i in pair))
             self.known[epoch, pair] = [self.nodes.index(node) for node in path]
         return self.known[epoch, pair]
 
-    def way_of(self, number, pair, frames, delivered):
+    def way_of(self, number: int, pair: Pair, frames: Sequence[Hop], delivered: bool) -> Optional[Way]:
         """A packet's way by the nodes and the one epoch that its hops say, as (hop limit, node, next node, epoch) of each;
         None where they are no way of one epoch. In place all hops have epoch 1, and a packet that made the whole walk of
         the other plan counts as its."""
@@ -55,22 +58,24 @@ class Judge:
             epoch = 2
         return Way(number, epoch, tuple(self.nodes[i] for i in way), self.nodes[pair[1]], delivered)
 
-    def by_rows(self, pair, way):
+    def by_rows(self, pair: Pair, way: Way) -> bool:
         """Whether a way is a front of the walk of its epoch, and the whole of it where the packet arrived."""
         if way.epoch not in self.plans:
             return False
         walk = tuple(self.nodes[i] for i in self.walk(way.epoch, pair))
         return way.nodes == walk[: len(way.nodes)] and (not way.is_there or way.nodes == walk)
 
-    def at_down(self, pair, epoch, frames):
+    def at_down(self, pair: Pair, epoch: int, frames: Sequence[Hop]) -> bool:
         """Whether a packet of an epoch came to its end at the link that is down, as its walk goes over it."""
         walk, made = self.walk(epoch, pair), len(frames)
         steps = [walk[i : i + 2] for i in (made - 1, made) if i >= 0]
         return any({self.nodes[i] for i in step} == set(self.down) for step in steps)
 
-    def judge(self, sent, pairs, frames, arrivals):
+    def judge(self, sent: int, pairs: Sequence[Pair], frames: Sequence[Tuple[int, int, int, int, int]],
+              arrivals: Sequence[Tuple[int, int]]) -> Verdict:
         """The verdict on packets of these numbers, packet N between pair N, going round."""
-        ways, arrived = defaultdict(list), defaultdict(list)
+        ways: Dict[int, List[Hop]] = defaultdict(list)
+        arrived: Dict[int, List[int]] = defaultdict(list)
         for number, limit, here, there, epoch in frames:
             ways[number].append((-limit, here, there, epoch))
         for number, node in arrivals:
@@ -88,10 +93,10 @@ class Judge:
             wrong = {way.number for way in told if not self.by_rows(ends[way.number], way)}
         for number, way in enumerate(made):
             fine = way is not None and number not in wrong
-            self.count(found, ends[number], hops[number], way.epoch if fine else None, is_there[number])
+            self.count(found, ends[number], hops[number], way.epoch if way is not None and fine else None, is_there[number])
         return found
 
-    def count(self, found, pair, frames, epoch, delivered):
+    def count(self, found: Verdict, pair: Pair, frames: Sequence[Hop], epoch: Optional[int], delivered: bool) -> None:
         """Adds one packet, with its hops in their order and its epoch, or None for a way of none, to what was found. One that
         made no hop took no way at all."""
         if not frames:

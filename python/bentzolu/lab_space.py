@@ -5,6 +5,7 @@ import select
 import shutil
 import signal
 import sys
+from typing import Any, Callable, NoReturn, Sequence
 
 from .lab_net import LabError, play
 
@@ -32,28 +33,28 @@ ip netns del bz-probe
 """
 
 
-def refuse(why):
+def refuse(why: str) -> NoReturn:
     raise LabError(f"cannot run here: {why}")
 
 
-def refuse_without_tools(tools):
+def refuse_without_tools(tools: Sequence[str]) -> None:
     """LabError where a lab can't be built, as far as that can be told without trying."""
     if not sys.platform.startswith("linux"):
-        refuse("it wants Linux")
+        refuse("the lab needs Linux")
     if os.geteuid() != 0:
-        refuse("it wants root")
+        refuse("the lab needs root")
     for tool in tools:
         if shutil.which(tool) is None:
             refuse(f"there is no {tool}")
 
 
-def called(name, *words):
+def called(name: str, *words: Any) -> None:
     """A call of the C library; LabError where it fails."""
     if getattr(libc, name)(*words) != 0:
         refuse(f"no namespaces can be made ({name}: {os.strerror(ctypes.get_errno())})")
 
 
-def settle(lifeline, probe, what):
+def settle(lifeline: int, probe: str, what: str) -> None:
     """Makes this process, the first of its namespace, one that ends with its parent, with mounts of its own."""
     libc.prctl(DIE_WITH_PARENT, signal.SIGKILL)
     if select.select([lifeline], [], [], 0)[0]:
@@ -70,7 +71,7 @@ def settle(lifeline, probe, what):
         refuse(f"network namespaces with IPv6 and {what} cannot be made ({fault})")
 
 
-def first(work, lifeline, probe, what):
+def first(work: Callable[[], int], lifeline: int, probe: str, what: str) -> NoReturn:
     """The first process of the namespace: does the work, and ends with its status."""
     status = 1
     try:
@@ -85,7 +86,7 @@ def first(work, lifeline, probe, what):
     os._exit(status)
 
 
-def apart(work, tools=("ip", "nft"), probe=PROBE, what="nftables"):
+def apart(work: Callable[[], int], tools: Sequence[str] = ("ip", "nft"), probe: str = PROBE, what: str = "nftables") -> int:
     """Does a work in namespaces of its own, and answers its status. However this process ends, also by a signal, all that
     the work started and made goes with it: a signal kills the first process there, and with that the kernel all others.
     The tools have to be there, and the probe, a script of the shell, has to pass there; `what` is what it asks for."""
@@ -98,7 +99,7 @@ def apart(work, tools=("ip", "nft"), probe=PROBE, what="nftables"):
         os.close(held)
         first(work, lifeline, probe, what)
 
-    def stop(number, _):
+    def stop(number: int, _: Any) -> NoReturn:
         os.kill(child, signal.SIGKILL)
         os.waitpid(child, 0)
         os._exit(128 + number)
@@ -107,6 +108,6 @@ def apart(work, tools=("ip", "nft"), probe=PROBE, what="nftables"):
         signal.signal(number, stop)
     _, status = os.waitpid(child, 0)
     if os.WIFSIGNALED(status):
-        print(f"lab: it was ended by the signal {os.WTERMSIG(status)}", file=sys.stderr)
+        print(f"lab: ended by signal {os.WTERMSIG(status)}", file=sys.stderr)
         return 1
     return os.WEXITSTATUS(status)

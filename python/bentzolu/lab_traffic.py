@@ -10,8 +10,13 @@ import socket
 import struct
 import sys
 import time
+from typing import Any, Callable, Dict, Iterator, List, Optional, Sequence, Set, Tuple
 
-from .lab_net import LabError
+from .lab_net import LabError, Network
+
+Ready = Callable[[], None]
+Pair = Tuple[int, int]  # the places of two nodes
+Frame = Tuple[int, int, int, int, int]  # packet, hop limit, node, next node, epoch
 
 PORT, STREAM_PORT = 7777, 9000
 BODY = struct.Struct("!IHH")  # number, source, destination
@@ -28,7 +33,7 @@ libc = ctypes.CDLL(None, use_errno=True)
 fork = multiprocessing.get_context("fork")
 
 
-def enter(space):
+def enter(space: str) -> None:
     """Puts this process into a network namespace."""
     handle = os.open(f"/run/netns/{space}", os.O_RDONLY)
     if libc.setns(handle, NEW_NET):
@@ -42,20 +47,22 @@ class Board:
 
     NAMES = ("stop_send", "stop_watch", "stop_stream", "sent", "low", "written", "read", "again")
 
-    def __init__(self):
+    values: memoryview
+
+    def __init__(self) -> None:
         object.__setattr__(self, "values", memoryview(mmap.mmap(-1, 8 * len(self.NAMES))).cast("Q"))
 
-    def __getattr__(self, name):
+    def __getattr__(self, name: str) -> int:
         return self.values[self.NAMES.index(name)]
 
-    def __setattr__(self, name, value):
+    def __setattr__(self, name: str, value: int) -> None:
         self.values[self.NAMES.index(name)] = value
 
 
 class Child:
     """A function in a process of its own. It says that it is ready by calling its first argument."""
 
-    def __init__(self, act, *words):
+    def __init__(self, act: Callable[..., Any], *words: Any) -> None:
         self.name = act.__name__
         self.pipe, far = fork.Pipe(duplex=False)
         self.process = fork.Process(target=Child.run, args=(far, act, words), daemon=True)
@@ -63,7 +70,7 @@ class Child:
         far.close()
 
     @staticmethod
-    def run(pipe, act, words):
+    def run(pipe: Any, act: Callable[..., Any], words: Sequence[Any]) -> None:
         signal.signal(signal.SIGINT, signal.SIG_IGN)
         try:
             pipe.send_bytes(pickle.dumps(act(lambda: pipe.send_bytes(pickle.dumps("ready")), *words)))
@@ -71,22 +78,22 @@ class Child:
             pipe.send_bytes(pickle.dumps(LabError(str(fault))))
             sys.exit(1)
 
-    def answer(self, seconds):
+    def answer(self, seconds: float) -> Any:
         """What it says next; LabError where it fails, or says nothing for so long."""
         try:
-            said = pickle.loads(self.pipe.recv_bytes()) if self.pipe.poll(seconds) else LabError("it says nothing")
+            said = pickle.loads(self.pipe.recv_bytes()) if self.pipe.poll(seconds) else LabError("it does not answer")
         except EOFError:
             said = LabError("it has ended")
         if isinstance(said, Exception):
             raise LabError(f"cannot go on: {self.name}: {said}")
         return said
 
-    def end(self):
+    def end(self) -> None:
         self.process.kill()
         self.process.join()
 
 
-def open_udp(space, bound=False):
+def open_udp(space: str, bound: bool = False) -> socket.socket:
     enter(space)
     sock = socket.socket(socket.AF_INET6, socket.SOCK_DGRAM)
     sock.setsockopt(socket.IPPROTO_IPV6, socket.IPV6_UNICAST_HOPS, HOPS)
@@ -97,7 +104,7 @@ def open_udp(space, bound=False):
     return sock
 
 
-def send(ready, spaces, addresses, pairs, rate, board):
+def send(ready: Ready, spaces: Sequence[str], addresses: Sequence[str], pairs: Sequence[Pair], rate: float, board: Board) -> None:
     """Sends packet after packet, number N between the pair of N's remainder, until it is to stop."""
     socks = [open_udp(space) for space in spaces]
     ready()
@@ -117,7 +124,7 @@ def send(ready, spaces, addresses, pairs, rate, board):
         time.sleep(0.001)
 
 
-def open_packets(space):
+def open_packets(space: str) -> socket.socket:
     """A socket that sees each frame of a namespace."""
     enter(space)
     sock = socket.socket(socket.AF_PACKET, socket.SOCK_DGRAM, socket.htons(3))
@@ -126,7 +133,7 @@ def open_packets(space):
     return sock
 
 
-def sent_on(packet, where):
+def sent_on(packet: bytes, where: Any) -> Optional[Tuple[int, int, int, int]]:
     """(number, hop limit, number of the next node, epoch) of a packet of UDP that leaves for another node, else None."""
     if where[2] != socket.PACKET_OUTGOING or not where[0].startswith("to"):
         return None
@@ -135,7 +142,7 @@ def sent_on(packet, where):
     return BODY.unpack_from(packet, 48)[0], packet[7], int(where[0][2:]) - 1, packet[26] << 8 | packet[27]
 
 
-def read_all(sock):
+def read_all(sock: socket.socket) -> Iterator[Tuple[bytes, Any]]:
     """The packets that wait at a socket, each with where it came from."""
     while True:
         try:
@@ -144,10 +151,13 @@ def read_all(sock):
             return
 
 
-def watch(ready, spaces, board):
+def watch(ready: Ready, spaces: Sequence[str], board: Board) -> Tuple[List[Frame], List[Tuple[int, int]], int]:
     """What each node sent on, as (packet, hop limit, node, next node, epoch), what arrived, as (packet, node), and how many
     frames were not seen. It ends when it is to stop and half a second was silent; frames of other traffic do not count."""
-    poll, socks, frames, arrivals, early = select.epoll(), {}, [], [], set()
+    poll, early = select.epoll(), set()  # type: Any, Set[int]
+    socks: Dict[int, Tuple[int, socket.socket, bool]] = {}
+    frames: List[Frame] = []
+    arrivals: List[Tuple[int, int]] = []
     for i, space in enumerate(spaces):
         for sock, is_arrival in ((open_packets(space), False), (open_udp(space, True), True)):
             socks[sock.fileno()] = i, sock, is_arrival
@@ -171,7 +181,7 @@ def watch(ready, spaces, board):
     return frames, arrivals, sum(struct.unpack("II", it.getsockopt(PACKETS, STATISTICS, 8))[1] for it in packets)
 
 
-def sink(ready, space, host, board):
+def sink(ready: Ready, space: str, host: str, board: Board) -> None:
     """Takes one connection, and counts what it reads to its end."""
     enter(space)
     server = socket.socket(socket.AF_INET6)
@@ -184,13 +194,13 @@ def sink(ready, space, host, board):
     connection.close()
 
 
-def sent_again(connection):
+def sent_again(connection: socket.socket) -> int:
     """How often TCP has sent a segment again."""
     info = connection.getsockopt(socket.IPPROTO_TCP, TCP_INFO, RETRANSMITS_AT + 4)
-    return struct.unpack_from("I", info, RETRANSMITS_AT)[0]
+    return int(struct.unpack_from("I", info, RETRANSMITS_AT)[0])
 
 
-def stream(ready, space, host, board):
+def stream(ready: Ready, space: str, host: str, board: Board) -> None:
     """Writes to one connection until it is to stop, ends it, and waits until the other side has read all."""
     enter(space)
     connection = socket.create_connection((host, STREAM_PORT), timeout=20)
@@ -209,17 +219,18 @@ def stream(ready, space, host, board):
 class Traffic:
     """All processes of a lab's traffic, while a `with` lasts."""
 
-    def __init__(self, network, pairs, ends, rate, watching=watch):
+    def __init__(self, network: Network, pairs: Sequence[Pair], ends: Tuple[str, str], rate: float,
+                 watching: Callable[..., Any] = watch) -> None:
         self.network, self.pairs, self.rate, self.watching = network, pairs, rate, watching
         self.ends = ends
         self.board = Board()
-        self.children = []
+        self.children: List[Child] = []
 
-    def start(self, act, *words):
+    def start(self, act: Callable[..., Any], *words: Any) -> Child:
         self.children.append(Child(act, *words))
         return self.children[-1]
 
-    def __enter__(self):
+    def __enter__(self) -> "Traffic":
         spaces = [self.network.space(node) for node in self.network.nodes]
         hosts = [self.network.host(node) for node in self.network.nodes]
         a, b = self.ends
@@ -236,11 +247,11 @@ class Traffic:
             raise
         return self
 
-    def __exit__(self, *_):
+    def __exit__(self, *_: object) -> None:
         for child in self.children:
             child.end()
 
-    def until(self, holds, seconds):
+    def until(self, holds: Callable[[], bool], seconds: float) -> bool:
         """Waits until something holds, for so long at most; LabError where a process has failed. Tells whether it holds."""
         end = time.monotonic() + seconds
         while not holds():
@@ -252,7 +263,7 @@ class Traffic:
             time.sleep(0.01)
         return True
 
-    def finish(self):
+    def finish(self) -> Any:
         """Ends the connection and the sending, lets all arrive, and tells what `watch` tells."""
         self.board.stop_stream = 1
         self.until(lambda: not self.streamer.process.is_alive(), 20)

@@ -12,7 +12,7 @@ from typing import Any, Callable, Dict, List, Sequence, Tuple
 from . import lines, xdp
 from .lab_net import LabError, Network
 from .plane import hardware
-from .xdp import MODES as MODES
+from .xdp import MODES as MODES  # noqa: F401
 
 PINS = "/run/bentzolu-pins"  # in the lab's own mounts
 EVENTS, STOP = "/run/bentzolu-events", "/run/bentzolu-stop"
@@ -37,7 +37,7 @@ class XdpNetwork(Network):
     """The nodes of a plan, and the scripts for their planes."""
 
     def __init__(self, plan: Any, links: Any, mode: str) -> None:
-        super().__init__(plan, links)  # type: ignore[no-untyped-call]
+        super().__init__(plan, links)
         self.mode = mode
         self.program = os.path.abspath(xdp.find())
         folder = pathlib.Path(self.program).parent
@@ -58,15 +58,15 @@ class XdpNetwork(Network):
     def tool(self, node: Any, words: str, given: Sequence[str] = ()) -> str:
         """The script that says words to a node's plane, with lines on standard input."""
         command = f"{shlex.quote(self.program)} --pins {self.pins(node)} {words}"
-        return str(self.inside(node, command, given))  # type: ignore[no-untyped-call]
+        return str(self.inside(node, command, given))
 
     def up(self) -> str:
         """The script that builds all nodes and links."""
-        return f"mkdir -p {PINS}\nmountpoint -q {PINS} || mount -t bpf bpf {PINS}\n" + str(super().up())  # type: ignore[no-untyped-call]
+        return f"mkdir -p {PINS}\nmountpoint -q {PINS} || mount -t bpf bpf {PINS}\n" + str(super().up())
 
     def up_plane(self, node: Any) -> str:
         """The script that puts a node's plane up."""
-        near = [f"{shlex.quote(str(other))} {self.port(other)} {hardware(self.number[other])}"  # type: ignore[no-untyped-call]
+        near = [f"{shlex.quote(str(other))} {self.port(other)} {hardware(self.number[other])}"
                 for other in self.near[node]]
         words = ["--object", shlex.quote(self.object), "up", self.mode, shlex.quote(str(node)), str(self.number[node] - 1), "bz0 bz1", *near]
         return self.tool(node, " ".join(words))
@@ -139,7 +139,7 @@ def arrived(ready: Callable[[], None], spaces: Sequence[str], board: Any) -> Lis
     found: List[Tuple[int, int]] = []
     early = set()
     for i, space in enumerate(spaces):
-        sock = lab_traffic.open_udp(space, True)  # type: ignore[no-untyped-call]
+        sock = lab_traffic.open_udp(space, True)
         socks[sock.fileno()] = i, sock
         poll.register(sock.fileno(), select.EPOLLIN)
     ready()
@@ -149,7 +149,7 @@ def arrived(ready: Callable[[], None], spaces: Sequence[str], board: Any) -> Lis
             return found
         for handle, _ in waiting:
             i, sock = socks[handle]
-            numbers = [lab_traffic.BODY.unpack(it[0])[0] for it in lab_traffic.read_all(sock)]  # type: ignore[no-untyped-call]
+            numbers = [lab_traffic.BODY.unpack(it[0])[0] for it in lab_traffic.read_all(sock)]
             found += [(number, i) for number in numbers]
             early.update(numbers)
             while board.low in early:

@@ -28,7 +28,7 @@ def read_range(word: str, to: str, line: int, names: NodeNames) -> Range:
     """A range, of a word `FROM-TO` and the one after it."""
     found = RANGE.fullmatch(word)
     if not found:
-        raise FormatError(f"{word!r} is no range", line)
+        raise FormatError(f"{word!r} is not a range", line)
     return Range(int(found[1]), int(found[2]), names.node(to))
 
 
@@ -63,12 +63,12 @@ def read_ranges(text: str, names: NodeNames = SAME) -> dict[Any, tuple[Range, ..
     nodes: dict[Any, tuple[Range, ...]] = {}
     for line, words in lines:
         if len(words) < 2 or len(words) % 2 != 0:
-            raise FormatError("a range without a neighbour", line)
+            raise FormatError("a range has no neighbour", line)
         number(words[1], line)
         found = (read_range(word, to, line, names) for word, to in zip(words[2::2], words[3::2]))
         nodes[names.node(words[0])] = tuple(found)
     if len(nodes) != number(first[2], 1) or sum(map(len, nodes.values())) != number(first[3], 1):
-        raise FormatError("not as many nodes and ranges as it says", 1)
+        raise FormatError("the numbers of nodes and ranges do not match the first line", 1)
     return nodes
 
 
@@ -94,7 +94,7 @@ def check_ranges(plan: Plan, found: Mapping[Any, Sequence[Range]]) -> None:
     >>> check_ranges(read_plan("plan tree 2 2\\na 0 1 b\\nb 1 0 a\\n"), found)
     """
     if set(found) != set(plan.nodes):
-        raise FormatError("the ranges are not of the plan's nodes")
+        raise FormatError("the ranges are not those of the plan's nodes")
     for name, node in plan.nodes.items():
         held: list[Node | None] = [None] * len(plan.nodes)
         before: Range | None = None
@@ -102,7 +102,7 @@ def check_ranges(plan: Plan, found: Mapping[Any, Sequence[Range]]) -> None:
             if not (before.last if before else -1) < it.first <= it.last < len(held):
                 raise FormatError(f"a range of {name!r} does not ascend")
             if before and before.last + 1 == it.first and before.to == it.to:
-                raise FormatError(f"two ranges of {name!r} that touch go to one neighbour")
+                raise FormatError(f"two adjacent ranges of {name!r} go to the same neighbour")
             held[it.first : it.last + 1] = [it.to] * (it.last + 1 - it.first)
             before = it
         wanted = neighbours_of(node, len(held))

@@ -54,7 +54,7 @@ class Row:
             Where the row has no start.
         """
         if not self.words:
-            raise LinesError("a row without a start leads nowhere")
+            raise LinesError("a row needs at least one start")
         return next((port for start, port in reversed(self.words) if start <= label), self.words[-1][1])
 
     def text(self) -> str:
@@ -87,24 +87,24 @@ def row_of(node: NodePlan, labels: int, neighbours: Sequence[Any]) -> Row:
     ports = {to: port for port, to in enumerate(neighbours)}
     for to in node.neighbours:
         if to not in ports:
-            raise LinesError(f"the row of {node.node} goes to {to}, to which there is no port: give all neighbours of the plan a port")
+            raise LinesError(f"the row of {node.node} forwards to {to}, which has no port: give every neighbour in the plan a port")
     return Row(labels, node.label, tuple(zip(node.starts, (ports[to] for to in node.neighbours))))
 
 
 def check_row(row: Row, epoch: int) -> None:
     """LinesError where no table can be made of a row."""
     if not 1 <= epoch <= MOST_EPOCH:
-        raise LinesError(f"an epoch is 1 to {MOST_EPOCH}, and not {epoch}")
+        raise LinesError(f"an epoch is a number from 1 to {MOST_EPOCH}, not {epoch}")
     if not 1 <= row.labels <= MOST_LABELS or not 0 <= row.own < row.labels:
-        raise LinesError(f"a table has 1 to {MOST_LABELS:,} labels, its own one among them, and not {row.labels} and {row.own}")
+        raise LinesError(f"a table has 1 to {MOST_LABELS:,} labels, and its own label is one of them: {row.labels} labels and own label {row.own} were given")
     if len(row.words) > MOST_STARTS:
-        raise LinesError(f"a row has at most {MOST_STARTS:,} starts, and not {len(row.words):,}")
+        raise LinesError(f"a row has at most {MOST_STARTS:,} starts, not {len(row.words):,}")
     before = -1
     for start, port in row.words:
         if not before < start < row.labels:
-            raise LinesError(f"the starts of a row ascend and are labels: {start} comes after {before}")
+            raise LinesError(f"the starts of a row must be labels in ascending order: {start} comes after {before}")
         if not 0 <= port < MOST_PORTS:
-            raise LinesError(f"a port is 0 to {MOST_PORTS - 1}, and not {port}")
+            raise LinesError(f"a port is a number from 0 to {MOST_PORTS - 1}, not {port}")
         before = start
 
 
@@ -198,7 +198,7 @@ def read(data: bytes) -> List[Tuple[int, ...]]:
     """
     if len(data) > 2 and data[2] == 0:
         if len(data) % LINE_BYTES:
-            raise LinesError(f"lines have {LINE_BYTES} bytes each, and these are {len(data):,} bytes")
+            raise LinesError(f"each line has {LINE_BYTES} bytes, but {len(data):,} bytes were given")
         return [struct.unpack_from(f"<{WORDS}I", data, at) for at in range(0, len(data), LINE_BYTES)]
     found = []
     for number, line in enumerate(data.decode("ascii", "replace").splitlines(), 1):
@@ -207,8 +207,34 @@ def read(data: bytes) -> List[Tuple[int, ...]]:
             raise LinesError(f"line {number} of the table is not {WORDS} words of 8 hexadecimal digits")
         found.append(tuple(int(part, 16) for part in parts))
     if not found:
-        raise LinesError("a table has a line at least")
+        raise LinesError("a table has at least one line")
     return found
+
+
+def row_in(table: Sequence[Sequence[int]]) -> Row:
+    """The row that the lines of a table say, by their lowest level or by their bytes.
+
+    Parameters
+    ----------
+    table : sequence
+        The lines of a table.
+
+    Returns
+    -------
+    Row
+        The row. One whose table begins with the last port, for what is below the first start, has that as a start.
+
+    Examples
+    --------
+    >>> row_in(lines(Row(14, 4, ((0, 0), (5, 1))), 1))
+    Row(labels=14, own=4, words=((0, 0), (5, 1)))
+    """
+    _, labels, own, depth, base = table[0][:5]
+    if depth == BYTES:
+        ports = as_bytes(table[1:])[:labels]
+        return Row(labels, own, tuple((at, port) for at, port in enumerate(ports) if at == 0 or ports[at - 1] != port))
+    leaves = table[0][HEAD_WORDS:] if depth == 0 else [word for line in table[1 if depth == 1 else base :] for word in line]
+    return Row(labels, own, tuple((word >> 16, word & 0xFFFF) for word in leaves if word != NO_WORD))
 
 
 def port_by_lines(table: Sequence[Sequence[int]], label: int) -> int:
@@ -233,7 +259,7 @@ def port_by_lines(table: Sequence[Sequence[int]], label: int) -> int:
     """
     head = table[0]
     if not 0 <= label < head[1]:
-        raise LinesError(f"the label {label} is none of the labels 0 to {head[1] - 1}")
+        raise LinesError(f"the label {label} is not in the range 0 to {head[1] - 1}")
     key, depth = label << 16 | 0xFFFF, head[3]
 
     def line(at: int) -> Sequence[int]:

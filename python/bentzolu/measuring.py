@@ -22,6 +22,7 @@ from .optional import numpy
 
 Failure = Tuple[Tuple[int, ...], Tuple[int, ...]]  # the numbers of links, and the places of nodes, both ascending
 INTACT: Failure = ((), ())
+LONGER = ("tree", "landmark")  # the kinds whose walks may weigh more than the distance
 FIGURES = (
     "parts", "nodes", "disconnected", "intervals", "greatest_row", "bits", "mean_stretch", "worst_stretch", "longer", "rerouted",
     "rows_changed", "removed", "put", "ring", "ring_together", "seconds", "fault",
@@ -30,7 +31,7 @@ FIGURES = (
 
 class Task(NamedTuple):
     """What each worker is told: the network by places and how plans are made. `numbering` is `depth-first`, `tour` or `keep`; `order`
-    has the places in the order of the labels, where that is given."""
+    has the places in the order of the labels, where that is given; `detour` has the words of kind landmark."""
 
     key: str
     n: int
@@ -42,6 +43,7 @@ class Task(NamedTuple):
     together: bool
     program: Optional[str]
     timeout: Optional[float]
+    detour: Tuple[str, ...] = ()
 
 
 def asked(words: Sequence[str], text: str, program: Optional[str], timeout: Optional[float]) -> Any:
@@ -70,7 +72,7 @@ class Planner:
     def planned(self, down: Set[int], gone: Sequence[int], kind: str, order: Optional[Sequence[int]], numbering: str) -> Rows:
         task, missing = self.task, set(gone)
         root = task.root if task.root not in missing else min(set(range(task.n)) - missing)
-        words = ["plan", "--format", "edgelist", "--kind", kind, "--numbering"]
+        words = ["plan", "--format", "edgelist", "--kind", kind, *(task.detour if kind == "landmark" else ()), "--numbering"]
         heads = [line for u, line in enumerate(self.heads) if u not in missing] if missing else self.heads
         lines = [line for i, line in enumerate(self.lines) if i not in down] if down else self.lines
         text = "".join(heads) + "".join(lines)
@@ -102,10 +104,11 @@ class ByPlans:
         self.whole = self.planned(set(), (), first)
         if task.numbering == "keep" and self.order is None:
             self.order = [int(u) for u in self.whole.rows.label.argsort()]
-        if task.kind != "tree":
-            self.walks = self.distance = walk_weights(self.whole.arcs, self.wiring)
-        else:
+        if task.kind == "tree":
             self.walks = tree_weights(self.whole.rows, to_root(self.whole.rows, self.whole.arcs), self.wiring)
+        else:
+            self.walks = self.distance = walk_weights(self.whole.arcs, self.wiring)
+        if task.kind in LONGER:
             rows = self.planner.planned(set(), (), "shortest", None, "depth-first")
             self.distance = walk_weights(next_arcs(rows, self.wiring), self.wiring)
 
@@ -133,7 +136,7 @@ class ByPlans:
     def figures(self, failure: Failure, down: Set[int]) -> Dict[str, Any]:
         """The figures of a failure that cuts nothing off."""
         np = numpy()
-        wiring, (lost, gone) = self.wiring, failure
+        wiring, (_, gone) = self.wiring, failure
         now = self.whole if failure == INTACT else self.planned(down, gone, self.task.numbering)
         ends = [u for i in down for u in self.task.links[i][:2]]
         degree = wiring.degree - np.bincount(np.array(ends, np.int64), minlength=self.task.n)
@@ -155,7 +158,7 @@ class ByPlans:
         """The mean and the worst of walk over distance in the whole network, and how many walks are longer than there.
 
         Walks of shortest paths can only be longer where the whole network has a shortest path over what failed, so no others are
-        followed. A tree's walks are all followed.
+        followed. Those of the kinds `LONGER` are all followed.
         """
         np = numpy()
         lost, gone = failure
@@ -163,14 +166,15 @@ class ByPlans:
         pairs = alive * (alive - 1)
         if not pairs:
             return None, None, 0
-        if self.task.kind != "tree":
+        if self.task.kind not in LONGER:
             over = on_shortest(self.distance, [self.task.links[i] for i in lost], gone)
             before = self.distance.reshape(-1)[over].astype(np.int32)
             after = weights_over(now.arcs, self.wiring, self.distance, over)
             ratio = after / before
             mean = (pairs - len(ratio) + ratio.sum()) / pairs
             return rounded(mean), float(ratio.max(initial=1.0)), int((after > before).sum())
-        after, total, worst, longer = tree_weights(now.rows, now.arcs, self.wiring), 0.0, 1.0, 0
+        after = tree_weights(now.rows, now.arcs, self.wiring) if self.task.kind == "tree" else walk_weights(now.arcs, self.wiring)
+        total, worst, longer = 0.0, 1.0, 0
         height = max(1, BLOCK // self.task.n)
         for low in range(0, self.task.n, height):
             some = slice(low, low + height)
@@ -211,7 +215,7 @@ def kept(task: Task) -> ByPlans:
     """What makes the figures of a sweep, made where this process does not have it yet."""
     with TURN:
         there = KEPT.get(task.key)
-        if there is None or there.task[-2:] != task[-2:]:  # another sweep, or another program
+        if there is None or (there.task.program, there.task.timeout) != (task.program, task.timeout):  # another sweep, or another program
             KEPT.clear()
             KEPT[task.key] = ByPlans(task)
         return KEPT[task.key]

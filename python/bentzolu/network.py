@@ -81,10 +81,10 @@ def order_of(network: Network, order: Any) -> List[int]:
     found = []
     for node in order:
         if node not in place:
-            raise ValueError(f"the order has {node!r}, which is no node of the network")
+            raise ValueError(f"the order has {node!r}, which is not a node of the network")
         found.append(place[node])
     if sorted(found) != list(range(len(network.nodes))):
-        raise ValueError(f"the order has {len(found):,} nodes, and needs each of the {len(network.nodes):,} nodes once")
+        raise ValueError(f"the order has {len(found):,} nodes, but needs each of the {len(network.nodes):,} nodes once")
     return found
 
 
@@ -100,8 +100,8 @@ def named_order(network: Network, path: str) -> List[Hashable]:
     try:
         names = read_text(path).split()
     except OSError as error:
-        raise SweepError(f"{path!r} is neither depth-first, tour nor keep, nor a file with an order of nodes: {error.strerror}") from error
+        raise SweepError(f"{path!r} is not depth-first, tour, keep or a readable file: {error.strerror}") from error
     for name in names:
         if name not in node:
-            raise SweepError(f"{path} has {name!r}, which is no node of the network")
+            raise SweepError(f"{path} has {name!r}, which is not a node of the network")
     return [node[name] for name in names]

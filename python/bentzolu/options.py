@@ -1,6 +1,7 @@
 """The options of the calls, as one value."""
 from __future__ import annotations
 
+import argparse
 import os
 from dataclasses import dataclass, fields, replace
 from typing import Any, Sequence
@@ -16,7 +17,7 @@ class Options:
     ----------
     kind : str
         `"shortest"` (shortest paths, the least port among ties), `"compact"` (shortest paths, ties broken for the fewest
-        intervals) or `"tree"` (along a depth-first tree).
+        intervals), `"tree"` (along a depth-first tree) or `"landmark"` (paths of at most `stretch` percent of the distance).
     root : node, optional
         The node from which labels are numbered; the first node by default.
     weight : str or None
@@ -29,6 +30,12 @@ class Options:
         Seconds, after which `subprocess.TimeoutExpired` is raised. A call with it goes to the program.
     words : sequence of str
         Further words of the command line, as `("--numbering", "tour")`.
+    landmarks : int, optional
+        For kind landmark: how many landmarks there are, 1 to 65,535; by default the least number of which four times the square
+        is at least the number of nodes.
+    stretch : int, optional
+        For kind landmark: the most percent of the distance that a path weighs, 100 to 300 (the default). `simulate`, `live` and
+        `check` take both words beside each kind, for the plans that a script installs.
     capacity : int, optional
         For `simulate` and `live`: the most packets in each channel and inbox, 1 to 1,024; 16 by default.
     packets : int, optional
@@ -54,10 +61,25 @@ class Options:
     capacity: int | None = None
     packets: int | None = None
     restamps: int | None = None
+    landmarks: int | None = None
+    stretch: int | None = None
 
 
 NAMES = tuple(it.name for it in fields(Options))
 OF_RUNS = ("capacity", "packets", "restamps")  # which `simulate` and `live` alone take
+
+
+def detour_words(landmarks: int | None = None, stretch: int | None = None) -> list[str]:
+    """The words of the command line for the landmarks and the stretch of kind landmark, where they are given."""
+    given = (("--landmarks", landmarks), ("--stretch", stretch))
+    return [f"{word}={value}" for word, value in given if value is not None]
+
+
+def add_detour(parser: argparse.ArgumentParser) -> None:
+    """Adds the words of kind landmark to a parser."""
+    said = "number of landmarks, for kind landmark (default: the least K for which 4 K K is at least the number of nodes)"
+    parser.add_argument("--landmarks", metavar="K", type=int, help=said)
+    parser.add_argument("--stretch", metavar="P", type=int, help="most percent of the distance that a path weighs, for kind landmark (default: 300)")
 
 
 def chosen(options: Options | None, named: dict[str, Any], of_runs: bool = False, **placed: Any) -> Options:
@@ -82,6 +104,6 @@ def chosen(options: Options | None, named: dict[str, Any], of_runs: bool = False
     known = [name for name in NAMES if of_runs or name not in OF_RUNS]
     for name in named:
         if name not in known:
-            raise TypeError(f"{name!r} is no option of this call; it takes {', '.join(known)}")
+            raise TypeError(f"{name!r} is not an option of this call, which takes {', '.join(known)}")
     given = {name: value for name, value in placed.items() if value is not None}
     return replace(options if options is not None else Options(), **given, **named)

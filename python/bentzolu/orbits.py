@@ -41,7 +41,7 @@ class Shell:
 
     def __post_init__(self) -> None:
         if self.planes < 1 or self.satellites < 1 or self.planes * self.satellites < 2:
-            raise GraphError(f"a shell of {self.planes} planes with {self.satellites} satellites is none: give 2 satellites or more")
+            raise GraphError(f"a shell of {self.planes} planes with {self.satellites} satellites is too small: give at least 2 satellites")
         if not self.altitude > 0 or not math.isfinite(self.inclination):
             said = f"it has {self.altitude} and {self.inclination}"
             raise GraphError(f"a shell needs an altitude above 0 kilometres and an inclination in degrees: {said}")

@@ -38,13 +38,13 @@ def stamp_value(tag: int) -> str:
     return f"0x{GROUP << 16 | tag:08x}"
 
 
-def table(ways: Mapping[int, Way], own: Optional[int] = None, mark: Optional[str] = None) -> List[str]:
+def table(ways: Mapping[int, Optional[Way]], own: Optional[int] = None, mark: Optional[str] = None) -> List[str]:
     """The table without an element, as nftables reads it.
 
     Parameters
     ----------
     ways : mapping
-        The ways to neighbours, by their numbers.
+        The ways to neighbours, by their numbers. What goes where there is None is dropped.
     own : int, optional
         The router's label, to be delivered whatever a packet's tag is; else an element of each tag says so.
     mark : str, optional
@@ -54,11 +54,14 @@ def table(ways: Mapping[int, Way], own: Optional[int] = None, mark: Optional[str
     lines = ["table netdev bz {"]
     lines += [f"chain {mark} {{", "}"] if mark else []
     for number, way in ways.items():
+        if way is None:
+            lines += [f"chain to_{number} {{", "counter drop", "}"]
+            continue
         lines += [f"chain to_{number} {{", f"iifname != bz1 ip6 hoplimit 1 {unstamp}"]
         lines += [f"fwd ip6 to {way.via} device {way.device}", "}"]
     lines += ["chain mine {", unstamp, "}", "chain stamp {", "}"]
     lines += ["map ways { type ipv6_addr : verdict; flags interval; }", "chain in {"]
-    devices = ", ".join([*(way.device for way in ways.values()), "bz1"])
+    devices = ", ".join([*(way.device for way in ways.values() if way), "bz1"])
     lines.append(f"type filter hook ingress devices = {{ {devices} }} priority 0;")
     lines += [f"ip6 daddr != {GROUP:x}::/16 accept", "iifname bz1 jump stamp"]  # I4: it is written at the source alone
     if own is not None:
@@ -79,6 +82,13 @@ def stamp(tag: int) -> List[str]:
     """From now on the router writes this tag into the packets of its own; 0: they end there."""
     lines = ["flush chain netdev bz stamp"]
     return [*lines, f"add rule netdev bz stamp @nh,192,32 set {stamp_value(tag)}"] if tag else lines
+
+
+def ways_of(found: Mapping[str, Any]) -> Dict[int, Way]:
+    """The ways of a table, by the neighbours' numbers, of what `nft -j list table netdev bz` prints."""
+    rules = [item["rule"] for item in found["nftables"] if "rule" in item and item["rule"]["chain"].startswith("to_")]
+    sent = {rule["chain"]: expr["fwd"] for rule in rules for expr in rule["expr"] if "fwd" in expr}
+    return {int(chain[len("to_"):]): Way(str(it["addr"]), str(it["dev"])) for chain, it in sent.items()}
 
 
 class Table(NamedTuple):

@@ -53,8 +53,8 @@ def find(program: str | os.PathLike[str] | None = None) -> str:
     if os.access(BUILT, os.X_OK):
         return str(BUILT)
     raise ProgramNotFoundError(
-        f"there is no program route: give program=.., set {VARIABLE}, put it on PATH as {NAME} "
-        f"(./install.sh PREFIX), or build it in the repository that this package stands in"
+        f"the program is not installed: give program=.., set {VARIABLE}, put it on PATH as {NAME} "
+        f"(./install.sh PREFIX), or build it in the repository of this package"
     )
 
 
@@ -63,7 +63,7 @@ def version(program: str | os.PathLike[str] | None = None) -> str:
     path = find(program)
     done = started([path, "--version"], None)
     lines = done.stdout.decode("utf-8", "replace").splitlines()
-    return lines[0] if lines else f"{path} says nothing of its version"
+    return lines[0] if lines else f"{path} does not report its version"
 
 
 def started(command: Sequence[str], timeout: float | None) -> subprocess.CompletedProcess[bytes]:
@@ -188,7 +188,7 @@ def refuse_other(path: str | None, said: Said) -> None:
     except subprocess.TimeoutExpired:
         return
     if b"net-tools" in done.stdout + done.stderr:
-        raise ProgramNotFoundError(f"{path} is the route of net-tools: give another program by program=.. or {VARIABLE}")
+        raise ProgramNotFoundError(f"{path} is the route program of net-tools: give another program by program=.. or {VARIABLE}")
 
 
 def content_of(faults: str, texts: Texts) -> str | None:

@@ -41,7 +41,7 @@ def decimal(word: Any, line: int | None = None) -> Fraction:
     """A word as an exact number."""
     found = as_fraction(word)
     if found is None:
-        raise FormatError(f"{word!r} is no number", line)
+        raise FormatError(f"{word!r} is not a number", line)
     return found
 
 
@@ -68,7 +68,7 @@ def networkx_for(format: str) -> Any:
     try:
         import networkx
     except ImportError:
-        raise BentzoluError(f"{format} is read by NetworkX, which is not installed") from None
+        raise BentzoluError(f"reading {format} needs NetworkX, which is not installed") from None
     return networkx
 
 
@@ -120,7 +120,7 @@ def read_json(text: str) -> Network:
     except json.JSONDecodeError as error:
         raise FormatError(error.msg, error.lineno) from None
     except (AttributeError, KeyError, TypeError) as error:
-        raise FormatError(f"no node-link JSON: {error}") from None
+        raise FormatError(f"not node-link JSON: {error}") from None
     return network
 
 
@@ -148,7 +148,7 @@ def section(text: str, name: str) -> str:
     """What is between the brackets of a section of SNDlib's native format."""
     found = re.search(rf"^\s*{name}\s*\(", text, re.MULTILINE)
     if not found:
-        raise FormatError(f"no section {name}")
+        raise FormatError(f"there is no section {name}")
     depth, at = 1, found.end()
     while at < len(text) and depth > 0:
         depth += {"(": 1, ")": -1}.get(text[at], 0)
@@ -169,7 +169,7 @@ def read_sndlib(text: str) -> Network:
     for _, source, target, capacity, _, routing, setup, _ in SNDLIB_LINK.findall(section(bare, "LINKS")):
         for end in (source, target):
             if end not in network.nodes:
-                raise FormatError(f"a link has the end {end}, which is no node")
+                raise FormatError(f"a link ends at {end}, which is not a node")
         network.add_edge(source, target, {"capacity": capacity, "routing_cost": routing, "setup_cost": setup})
     return with_distances(network, places, all(abs(x) <= 180 and abs(y) <= 90 for x, y in places.values()))
 
@@ -203,7 +203,7 @@ def read_sndlib_xml(text: str) -> Network:
         elif local(element) == "link":
             source, target = inner(element, "source"), inner(element, "target")
             if source not in network.nodes or target not in network.nodes:
-                raise FormatError(f"the link {element.get('id')} has an end that is no node")
+                raise FormatError(f"the link {element.get('id')} has an end that is not a node")
             given = {"capacity": inner(element, "capacity"), "routing_cost": inner(element, "routingCost"), "setup_cost": inner(element, "setupCost")}
             network.add_edge(source, target, {key: value for key, value in given.items() if value is not None})
     return with_distances(network, places, geographical)
@@ -215,7 +215,7 @@ def read_rocketfuel(text: str) -> Network:
     for line, said in plain_lines(text):
         words = said.split("\t") if said.count("\t") == 2 else said.split()
         if len(words) != 3:
-            raise FormatError("not two names and a weight", line)
+            raise FormatError("expected two names and a weight", line)
         network.add_edge(words[0], words[1], {"weight": decimal(words[2], line)})
     return network
 
@@ -230,7 +230,7 @@ def read_caida(text: str) -> Network:
                 continue
             fields = fields[1:]
         if len(fields) < 2 or not all(re.fullmatch(r"[0-9][0-9,_]*", word) for word in fields[:2]):
-            raise FormatError("not two autonomous systems", line)
+            raise FormatError("expected two autonomous systems", line)
         network.add_edge(fields[0], fields[1])
     return network
 
@@ -258,7 +258,7 @@ def read_csv(text: str) -> Network:
         if not any(cells) or cells[0].startswith("#"):
             continue
         if len(cells) < 2 or not cells[0] or not cells[1]:
-            raise FormatError("not two nodes", reader.line_num)
+            raise FormatError("expected two nodes", reader.line_num)
         if not (is_first and is_head(cells)):
             given = {"weight": decimal(cells[2], reader.line_num)} if len(cells) > 2 and cells[2] else {}
             network.add_edge(cells[0], cells[1], given)
@@ -271,20 +271,20 @@ def read_matrix_market(text: str) -> Network:
     lines = text.splitlines()
     head = lines[0].lower().split() if lines else []
     if head[:3] != ["%%matrixmarket", "matrix", "coordinate"] or len(head) < 5 or head[3] not in ("real", "integer", "pattern"):
-        raise FormatError("not 'matrix coordinate' of real, integer or pattern", 1)
+        raise FormatError("expected 'matrix coordinate' of real, integer or pattern", 1)
     network = Network()
     size: int | None = None
     for line, said in plain_lines("\n" + "\n".join(lines[1:]), "%"):
         words = said.split()
         if size is None:
             if len(words) != 3 or words[0] != words[1] or not words[0].isdigit():
-                raise FormatError("not the size of a square matrix", line)
+                raise FormatError("expected the size of a square matrix", line)
             size = int(words[0])
             for node in range(1, size + 1):
                 network.add_node(node)
             continue
         if len(words) != (2 if head[3] == "pattern" else 3) or not all(word.isdigit() and 1 <= int(word) <= size for word in words[:2]):
-            raise FormatError("no entry of the matrix", line)
+            raise FormatError("expected an entry of the matrix", line)
         weight = Fraction(1) if head[3] == "pattern" else decimal(words[2], line)
         if weight != 0:
             network.add_edge(int(words[0]), int(words[1]), {"weight": weight})
@@ -297,7 +297,7 @@ def read_gexf(text: str) -> Network:
     try:
         graph = networkx.read_gexf(io.StringIO(text))
     except (networkx.NetworkXError, ElementTree.ParseError, KeyError, ValueError, TypeError, AttributeError) as error:
-        raise FormatError(f"no GEXF: {error}") from None
+        raise FormatError(f"not GEXF: {error}") from None
     network = of_networkx(labelled(networkx, graph))
     for _, _, attributes in network.edges:
         attributes.pop("id", None)
@@ -310,7 +310,7 @@ def read_pajek(text: str) -> Network:
     try:
         return of_networkx(networkx.parse_pajek(text))
     except (networkx.NetworkXError, ValueError, IndexError, KeyError, StopIteration, RuntimeError) as error:
-        raise FormatError(f"no network of Pajek: {error}") from None
+        raise FormatError(f"not a Pajek network: {error}") from None
 
 
 def read_one_line(text: str, name: str, front: str, read: str) -> Network:
@@ -318,11 +318,11 @@ def read_one_line(text: str, name: str, front: str, read: str) -> Network:
     networkx = networkx_for(name)
     lines = [line.strip() for line in text.splitlines() if line.strip()]
     if len(lines) != 1:
-        raise FormatError(f"{len(lines)} graphs, where one is wanted")
+        raise FormatError(f"expected one graph, found {len(lines)}")
     try:
         return of_networkx(getattr(networkx, read)(lines[0].removeprefix(front).encode("ascii")))
     except (networkx.NetworkXError, ValueError, IndexError) as error:
-        raise FormatError(f"no {name}: {error}") from None
+        raise FormatError(f"not {name}: {error}") from None
 
 
 def read_graph6(text: str) -> Network:
@@ -346,7 +346,7 @@ def closed(text: str, at: int, line: int) -> int:
         depth += {"(": 1, "[": 1, "{": 1, ")": -1, "]": -1, "}": -1}.get(found[0], 0)
         if depth == 0:
             return found.end()
-    raise FormatError("a bracket that is not closed", line)
+    raise FormatError("a bracket is not closed", line)
 
 
 def python_words(text: str, line: int) -> list[str]:
@@ -379,7 +379,7 @@ def python_data(word: str, line: int) -> dict[Any, Any]:
     except (SyntaxError, ValueError):
         found = None
     if not isinstance(found, dict):
-        raise FormatError(f"{word[:40]!r} is no dictionary of attributes", line)
+        raise FormatError(f"{word[:40]!r} is not a dictionary of attributes", line)
     return found
 
 
@@ -396,7 +396,7 @@ def read_adjlist(text: str) -> Network:
     network = Network()
     for line, words in list_lines(text):
         if any(word.startswith("{") for word in words):
-            raise FormatError("attributes in braces: give --from edgelist or --from multiline", line)
+            raise FormatError("attributes in braces are not allowed here: give --from edgelist or --from multiline", line)
         node, *neighbours = map(python_node, words)
         network.add_node(node)
         for other in neighbours:
@@ -416,7 +416,7 @@ def read_edgelist(text: str) -> Network:
         if len(words) == 3:
             data = python_data(words[2], line) if words[2].startswith("{") else {"weight": decimal(words[2], line)}
         elif len(words) > 3:
-            raise FormatError("more than two nodes and a weight, or attributes", line)
+            raise FormatError("expected two nodes, and then a weight, attributes or nothing", line)
         network.add_edge(python_node(words[0]), python_node(words[1]), data)
     return network
 
@@ -429,12 +429,12 @@ def read_multiline(text: str) -> Network:
     for line, words in list_lines(text):
         if left == 0:
             if len(words) != 2 or not words[1].isdigit():
-                raise FormatError("not a node and the number of its neighbours", line)
+                raise FormatError("expected a node and the number of its neighbours", line)
             node, left = python_node(words[0]), int(words[1])
             network.add_node(node)
             continue
         if len(words) > 2:
-            raise FormatError("not a neighbour and its attributes", line)
+            raise FormatError("expected a neighbour and its attributes", line)
         data = python_data(words[1], line) if len(words) == 2 else {}
         network.add_edge(node, python_node(words[0]), data)
         left -= 1

@@ -68,9 +68,11 @@ class Relabeller:
         weight: Optional[str] = "weight", program: Any = None, timeout: Optional[float] = None,
     ) -> None:
         if kind == "tree":
-            raise SweepError("kind tree is numbered depth-first alone, so its labels can't be kept: give shortest or compact")
+            raise SweepError("a plan of kind tree is always numbered depth-first, so its labels can't be kept: give shortest or compact")
+        if kind == "landmark":
+            raise SweepError("a plan of kind landmark is always numbered by its landmarks, so its labels can't be kept: give shortest or compact")
         if not price >= 0 or every < 1:
-            raise SweepError(f"a price of {price} with a fresh plan each {every} changes is none: give a price from 0, and a number from 1")
+            raise SweepError(f"a price of {price} with a fresh plan each {every} changes is not possible: give a price of at least 0, and a number of at least 1")
         self.kind, self.price, self.directory, self.every = kind, price, directory, every
         self.options: Dict[str, Any] = {"root": root, "weight": weight, "program": program, "timeout": timeout}
         self.plan: Optional[Plan] = None

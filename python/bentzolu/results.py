@@ -38,12 +38,12 @@ def read_lines(path: str, data: bytes) -> Tuple[Line, List[Line]]:
             value = None
         if not isinstance(value, dict) or ("sweep" if at == 1 else "failure") not in value:
             raise ResultsError(
-                f"{path} is no file of a sweep: give another file" if at == 1
-                else f"line {at} of {path} is no row of a sweep: remove it, and its failure is made again"
+                f"{path} is not a file of a sweep: give another file" if at == 1
+                else f"line {at} of {path} is not a row of a sweep: remove it, and its failure is computed again"
             )
         found.append(value)
     if not found:
-        raise ResultsError(f"{path} has no head of a sweep: give another file")
+        raise ResultsError(f"{path} does not begin as a file of a sweep: give another file")
     return found[0], found[1:]
 
 
@@ -64,7 +64,7 @@ class Results:
         try:
             self.file = os.open(self.path, os.O_RDWR | os.O_CREAT | os.O_APPEND | getattr(os, "O_BINARY", 0), 0o666)
         except OSError as error:
-            raise ResultsError(f"{self.path} can't be opened for the rows of the sweep: {error.strerror}") from error
+            raise ResultsError(f"{self.path} can't be opened for writing: {error.strerror}") from error
         try:
             self.lock()
             self.begin(head)
@@ -142,6 +142,6 @@ def described(head: Line) -> str:
         return str(head.get(name, "?"))
 
     return (
-        f"kind {said('kind')}, numbering {said('numbering')}, root {said('root')}, {said('nodes')} nodes and {said('links')} links, "
+        f"kind {' '.join([said('kind'), *head.get('detour', '').split()])}, numbering {said('numbering')}, root {said('root')}, {said('nodes')} nodes and {said('links')} links, "
         f"version {said('version')}, sum {said('sweep')[:8]}"
     )

@@ -83,6 +83,8 @@ def stats(found: texts.Stats) -> str:
         rows.append(("most intervals at a port", f"{port.intervals:,} from {port.node} to {port.to}"))
     if found.dependencies is not None:
         rows.append(("ring of waiting links", joined(found.dependencies) or "none"))
+    if found.landmarks is not None:
+        rows += [("landmarks", joined(found.landmarks)), ("most stretch", f"{found.most_stretch} percent")]
     return table(f"Stats {found.kind}", ("figure", "value"), rows)
 
 

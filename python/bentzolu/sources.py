@@ -26,7 +26,7 @@ class FileNames(SameNames):
     @staticmethod
     def name(node: Any) -> str:
         if not isinstance(node, str):
-            raise UnknownNodeError(f"the nodes of a file are strings, and {node!r} is none")
+            raise UnknownNodeError(f"the nodes of a file are strings, but {node!r} is not a string")
         return node
 
     @staticmethod
@@ -109,7 +109,7 @@ def line_of(step: Any, names: NodeNames) -> str:
     try:
         name, *operands = step
     except (TypeError, ValueError):
-        raise StepError(f"{step!r} is no step") from None
+        raise StepError(f"{step!r} is not a step") from None
     if name == "take":
         if len(operands) == 2 and operands[1] == "inbox":
             return f"take {names.name(operands[0])} inbox"
@@ -118,8 +118,8 @@ def line_of(step: Any, names: NodeNames) -> str:
         raise StepError(f"{step!r} is neither (take, node, inbox) nor (take, node, from, node)")
     kinds = OPERANDS.get(name)
     if kinds is None or len(kinds) != len(operands):
-        raise StepError(f"{step!r} is no step: it would be {name} with {len(kinds)} operands" if kinds is not None
-                        else f"{step!r} is no step")
+        raise StepError(f"{step!r} is not a step: {name} takes {len(kinds)} operands" if kinds is not None
+                        else f"{step!r} is not a step")
     return " ".join([name, *(word_of(operand, kind, names) for operand, kind in zip(operands, kinds))])
 
 

@@ -15,6 +15,7 @@ from typing import Any, Iterator, List, Optional
 from . import calls, figures, network, optional, program as programs, texts
 from .convert import READERS
 from .errors import BentzoluError, FailureError, SweepError, TopologyWarning
+from .options import add_detour, detour_words
 from .sources import of_file
 from .sweeping import KINDS, NUMBERINGS, FailureRow, Sweep, asked_of, made, read_sweep, table_of
 
@@ -24,79 +25,80 @@ def add_network(parser: argparse.ArgumentParser, weighed: bool = True) -> None:
     formats = sorted(READERS)
     parser.add_argument(
         "--from", dest="format", metavar="FORMAT", choices=formats,
-        help=f"the file's format, else its text and name say: {', '.join(formats)}",
+        help=f"format of the file (default: found from its text and its name): {', '.join(formats)}",
     )
-    parser.add_argument("--largest", action="store_true", help="take the largest of several parts; else they are refused")
+    parser.add_argument("--largest", action="store_true", help="take the largest part of a network of several parts, which is otherwise refused")
     parser.add_argument(
         "--weight", metavar="NAME",
-        help="the attribute that is the weight ('weight' where there is one), or 1 for 1 everywhere",
+        help="edge attribute to take as the weight (default: 'weight' where there is one), or 1 for 1 everywhere",
     )
-    parser.add_argument("--kind", default="shortest", choices=KINDS, help="how packets are routed; shortest by default")
-    parser.add_argument("--root", metavar="NAME", help="the node from which labels are numbered, by its name in route")
+    parser.add_argument("--kind", default="shortest", choices=KINDS, help="kind of the plans (default: shortest)")
+    parser.add_argument("--root", metavar="NAME", help="node from which labels are numbered, by its name in the program (default: the first node)")
+    add_detour(parser)
 
 
 def add_sweep(parser: argparse.ArgumentParser) -> None:
-    parser.add_argument("file", metavar="FILE", help="the file of the network, in any format that convert reads")
+    parser.add_argument("file", metavar="FILE", help="network file, in any format that convert reads")
     add_network(parser)
     parser.add_argument(
         "--failures", default="links", metavar="WHAT",
-        help="links (the default), nodes, or a number k for each k links together",
+        help="what fails: links (the default), nodes, or a number k for every k links together",
     )
     parser.add_argument(
         "--numbering", default="depth-first", metavar="HOW",
-        help="depth-first, tour, keep (a tour whose labels stay), or a file with an order of the nodes",
+        help="depth-first (the default), tour, keep (a tour whose labels stay), or a file that lists the nodes in order",
     )
     engine = parser.add_mutually_exclusive_group()
-    engine.add_argument("--jobs", type=int, default=1, metavar="N", help="make rows in N processes of this machine; 1 by default")
-    engine.add_argument("--dask", metavar="ADDRESS", help="make rows by the workers of a dask scheduler, as tcp://host:8786")
+    engine.add_argument("--jobs", type=int, default=1, metavar="N", help="compute rows in N processes on this machine (default: 1)")
+    engine.add_argument("--dask", metavar="ADDRESS", help="compute rows on the workers of a dask scheduler, such as tcp://host:8786")
     engine.add_argument(
         "--mpi", action="store_true",
-        help="make rows by MPI: mpiexec -n 5 python3 -m mpi4py.futures -m bentzolu sweep --mpi ..",
+        help="compute rows by MPI: mpiexec -n 5 python3 -m mpi4py.futures -m bentzolu sweep --mpi ..",
     )
     parser.add_argument(
         "-o", "--output", metavar="ROWS",
-        help="the file of the rows, a line of JSON each; where it is there, its rows are not made again",
+        help="write rows to this file, as lines of JSON; rows that are there already are not computed again",
     )
-    parser.add_argument("--worst", type=int, default=10, metavar="K", help="how many of the worst failures are printed; 10 by default")
+    parser.add_argument("--worst", type=int, default=10, metavar="K", help="print the K worst failures (default: 10)")
     parser.add_argument(
         "--by", metavar="FIGURE",
-        help="the figure whose greatest are the worst, as bits; by default pairs cut off, then stretch",
+        help="rank failures by this figure, such as bits (default: pairs cut off, then stretch)",
     )
-    parser.add_argument("--progress", action="store_true", help="show how many rows are made, where tqdm is installed")
+    parser.add_argument("--progress", action="store_true", help="show progress, if tqdm is installed")
     parser.set_defaults(act=sweep)
 
 
 def add_plot(parser: argparse.ArgumentParser) -> None:
     parser.add_argument(
         "what", choices=("rows", "stretch", "sweep"),
-        help="rows: the intervals of a network's nodes; stretch: that of the failures of a sweep; sweep: a sweep",
+        help="rows: the intervals of a network's nodes; stretch: the stretch of each failure of a sweep; sweep: a whole sweep",
     )
     parser.add_argument(
         "files", nargs="+", metavar="FILE",
-        help="for rows the file of a network, for stretch and sweep the rows of a sweep",
+        help="a network file for rows, a file of rows for stretch and sweep",
     )
     add_network(parser)
     parser.add_argument(
         "--numbering", action="append", metavar="HOW",
-        help="for rows: depth-first, tour, or a file with an order; several are drawn beside each other",
+        help="for rows: depth-first, tour, or a file that lists the nodes in order; give it again to compare several",
     )
     parser.add_argument(
         "--show", default="links", choices=figures.OF_SWEEPS,
-        help="for sweep: links (the worst by name), stretch, or bits; links by default",
+        help="for sweep: links (the worst by name, the default), stretch, or bits",
     )
     parser.add_argument(
         "-o", "--output", required=True, metavar="PICTURE",
-        help="the file of the picture, whose ending says its format: .png, .pdf, .svg",
+        help="picture file; its ending sets the format: .png, .pdf or .svg",
     )
     parser.set_defaults(act=plot)
 
 
 def add_words(subparsers: Any) -> None:
     """Adds the subcommands `sweep` and `plot`."""
-    what = "makes a network's plan under each of many failures, and prints the worst"
-    about = f"{what[0].upper()}{what[1:]}. A run that was stopped goes on where it is called again with the same file of rows."
+    what = "compute a network's plan under each of many failures, and print the worst"
+    about = f"{what[0].upper()}{what[1:]}. A run that was stopped continues if it is called again with the same file of rows."
     add_sweep(subparsers.add_parser("sweep", help=what, description=about))
-    what = "draws the rows of a plan or of a sweep to a file"
+    what = "draw the rows of a plan or of a sweep to a file"
     add_plot(subparsers.add_parser("plot", help=what, description=f"{what[0].upper()}{what[1:]}. It needs matplotlib."))
 
 
@@ -119,7 +121,7 @@ def failures_of(word: str) -> Any:
     if word in ("links", "nodes"):
         return word
     if not (word.isascii() and word.isdigit()):
-        raise FailureError(f"{word!r} is neither links nor nodes, nor a number of links that fail together")
+        raise FailureError(f"{word!r} is not a set of failures: give links, nodes, or a number of links that fail together")
     return int(word)
 
 
@@ -133,11 +135,11 @@ def engine_of(found: argparse.Namespace) -> Iterator[Any]:
         try:
             client = distributed.Client(found.dask, timeout=20)
         except (OSError, ValueError) as error:
-            raise BentzoluError(f"there is no dask scheduler at {found.dask}: {error}") from error
+            raise BentzoluError(f"no dask scheduler answers at {found.dask}: {error}") from error
         with client:
             yield client.get_executor(retries=3)
     elif found.jobs < 1:
-        raise BentzoluError(f"--jobs {found.jobs} is none: give a number from 1")
+        raise BentzoluError(f"--jobs {found.jobs} is too small: give a number of at least 1")
     else:
         made = functools.partial(concurrent.futures.ProcessPoolExecutor, found.jobs, initializer=end_with_parent)
         yield None if found.jobs == 1 else made
@@ -163,7 +165,7 @@ def sweep(found: argparse.Namespace) -> int:
         net = network.network_of_file(found.file, found.format, weight_of(found.weight), found.largest)
     root = None if found.root is None else node_of(net, found.root)
     numbering = found.numbering if found.numbering in NUMBERINGS else network.named_order(net, found.numbering)
-    asked = asked_of(net, failures_of(found.failures), found.kind, root, numbering, True, None, None)
+    asked = asked_of(net, failures_of(found.failures), found.kind, root, numbering, True, None, None, found.landmarks, found.stretch)
     with engine_of(found) as executor:
         rows = made(asked, executor, None, found.output, found.progress, 3)
     some = rows.worst(found.by, max(0, found.worst))
@@ -180,14 +182,14 @@ def sweep(found: argparse.Namespace) -> int:
 def node_of(net: network.Network, name: str) -> Any:
     """The node of a name."""
     if name not in net.names:
-        raise SweepError(f"the root {name!r} is no node of the network")
+        raise SweepError(f"the root {name!r} is not a node of the network")
     return net.nodes[net.names.index(name)]
 
 
 def lengths_of(found: argparse.Namespace, file: str, numbering: str) -> List[int]:
     """The number of intervals of each node of a file's plan."""
     topology = of_file(file, found.format, weight_of(found.weight), found.largest)
-    words = ["plan", *calls.options(topology, found.kind, None, ()), f"--numbering={numbering}"]
+    words = ["plan", *calls.options(topology, found.kind, None, detour_words(found.landmarks, found.stretch)), f"--numbering={numbering}"]
     words += [] if found.root is None else [f"--root={found.root}"]
     said = programs.run(words, [("topology", topology.text)], names=topology.names)
     topology.warn(said.notes())

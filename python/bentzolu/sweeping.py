@@ -23,6 +23,7 @@ from .errors import ResultsError, SweepError
 from .failures import failures_of, spelled, written
 from .measuring import FIGURES, INTACT, Failure, Task
 from .network import Network, network_of, order_of
+from .options import detour_words
 from .results import Results, read_lines
 from .spreading import Broken, spread
 
@@ -30,7 +31,7 @@ SECONDS = 0.2  # of work that a task has
 FEWEST_TASKS = 32  # of a sweep, so that each worker has some
 MOST_FAILURES = 1024  # of a task
 NUMBERINGS = ("depth-first", "tour", "keep")
-KINDS = ("shortest", "compact", "tree")
+KINDS = ("shortest", "compact", "tree", "landmark")
 
 
 class FailureRow(NamedTuple):
@@ -140,7 +141,7 @@ class Sweep(RowSequence[FailureRow]):
         k : how many
         """
         if by is not None and by not in FailureRow._fields[1:]:
-            raise SweepError(f"rows have no figure {by!r}: there are {', '.join(FailureRow._fields[1:])}", self)
+            raise SweepError(f"rows have no figure {by!r}: give one of {', '.join(FailureRow._fields[1:])}", self)
 
         def badness(row: FailureRow) -> Tuple[Any, ...]:
             if by is not None:
@@ -212,11 +213,13 @@ class Asked(NamedTuple):
 def numbering_of(numbering: Any, kind: str, network: Network) -> Tuple[str, Optional[Tuple[int, ...]], str]:
     """The numbering that a task has, the order of places where one is given, and what the head says of it."""
     if isinstance(numbering, str) and numbering not in NUMBERINGS:
-        raise SweepError(f"{numbering!r} is no numbering of a sweep: give one of {', '.join(NUMBERINGS)}, a list of nodes, or a path")
+        raise SweepError(f"{numbering!r} is not a numbering for a sweep: give one of {', '.join(NUMBERINGS)}, a list of nodes, or a path")
     if kind == "tree" and numbering != "depth-first":
-        raise SweepError("kind tree is numbered depth-first alone, since its intervals are those of subtrees")
+        raise SweepError("a plan of kind tree is always numbered depth-first, since its intervals are those of subtrees")
+    if kind == "landmark" and numbering != "depth-first":
+        raise SweepError("a plan of kind landmark is always numbered by its landmarks, so it takes no numbering but depth-first")
     if isinstance(numbering, str):
-        return numbering, None, numbering
+        return numbering, None, "blocks" if kind == "landmark" else numbering
     try:
         order = order_of(network, numbering)
     except (ValueError, TypeError) as error:
@@ -225,27 +228,45 @@ def numbering_of(numbering: Any, kind: str, network: Network) -> Tuple[str, Opti
     return "keep", tuple(order), f"order {spoken}"
 
 
+def detour_of(kind: str, landmarks: Optional[int], stretch: Optional[int]) -> Tuple[str, ...]:
+    """The words of kind landmark.
+
+    Raises
+    ------
+    SweepError
+        where they are given to another kind, or are none that the kind takes
+    """
+    for name, value, least, most in (("landmarks", landmarks, 1, 65_535), ("stretch", stretch, 100, 300)):
+        if value is not None and kind != "landmark":
+            raise SweepError(f"{name} is of kind landmark alone, and not of kind {kind}")
+        if value is not None and not least <= value <= most:
+            raise SweepError(f"{name} of {value} is none: give a number from {least} to {most:,}")
+    return tuple(detour_words(landmarks, stretch))
+
+
 def asked_of(
     network: Network, failures: Any, kind: str, root: Any, numbering: Any, together: bool, program: Any, timeout: Optional[float],
+    landmarks: Optional[int] = None, stretch: Optional[int] = None,
 ) -> Asked:
     """What is to be made, with a sum that no other sweep has."""
     from . import __version__
 
     if kind not in KINDS:
-        raise SweepError(f"{kind!r} is no kind of plan: give one of {', '.join(KINDS)}")
+        raise SweepError(f"{kind!r} is not a kind of plan: give one of {', '.join(KINDS)}")
     place = 0
     if root is not None:
         if root not in network.nodes:
-            raise SweepError(f"the root {root!r} is no node of the network")
+            raise SweepError(f"the root {root!r} is not a node of the network")
         place = network.nodes.index(root)
     how, order, said = numbering_of(numbering, kind, network)
+    detour = detour_of(kind, landmarks, stretch)
     path = None if program is None else os.fspath(program)
-    task = Task("", len(network.nodes), network.links, kind, how, order, place, together, path, timeout)
-    summed = repr((network.names, *task[1:8], __version__)).encode()
+    task = Task("", len(network.nodes), network.links, kind, how, order, place, together, path, timeout, detour)
+    summed = repr((network.names, *task[1:8], *detour, __version__)).encode()
     task = task._replace(key=hashlib.sha256(summed).hexdigest())
     head = {
         "sweep": task.key, "version": __version__, "kind": kind, "numbering": said, "root": network.names[place],
-        "nodes": len(network.nodes), "links": len(network.links),
+        "nodes": len(network.nodes), "links": len(network.links), **({"detour": " ".join(detour)} if detour else {}),
     }
     return Asked(network, task, head, failures_of(failures, network))
 
@@ -307,6 +328,7 @@ def sweep(
     G: Any, failures: Any = "links", kind: str = "shortest", root: Optional[Hashable] = None, *, numbering: Any = "depth-first",
     together: bool = True, executor: Any = None, chunk: Optional[int] = None, results: "Optional[os.PathLike[str] | str]" = None,
     progress: bool = False, retries: int = 3, weight: Optional[str] = "weight", program: Any = None, timeout: Optional[float] = None,
+    landmarks: Optional[int] = None, stretch: Optional[int] = None,
 ) -> Sweep:
     """The figures of a network's plan under each of many failures.
 
@@ -325,6 +347,7 @@ def sweep(
     progress : whether `tqdm`, where it is there, shows how many rows are made
     retries : how often a task that failed goes again
     weight, program, timeout : as for `plan`; `timeout` is the most seconds of one plan
+    landmarks, stretch : as for `plan`, of each plan of kind landmark
 
     Returns
     -------
@@ -348,7 +371,7 @@ def sweep(
     [('a-b', 0, 2.0), ('b-c', 0, 2.0), ('c-a', 0, 2.0), ('c-d', 6, None)]
     """
     optional.numpy()
-    asked = asked_of(network_of(G, weight), failures, kind, root, numbering, together, program, timeout)
+    asked = asked_of(network_of(G, weight), failures, kind, root, numbering, together, program, timeout, landmarks, stretch)
     return made(asked, executor, chunk, results, progress, retries)
 
 
@@ -357,7 +380,7 @@ def made(
 ) -> Sweep:
     """The rows of what was asked."""
     if chunk is not None and chunk < 1:
-        raise SweepError(f"a chunk of {chunk} failures is none: give a number from 1, or None")
+        raise SweepError(f"a chunk of {chunk} failures is not possible: give a number of at least 1, or None")
     file = Results(results, asked.head)
     try:
         there = Progress(asked, file, progress)
@@ -429,7 +452,7 @@ def ended(there: Progress, broken: Broken) -> SweepError:
     cause = broken.__cause__
     count, whole = len(there.rows) - 1, len(there.names) - 1
     where = f"they are in {there.results.path}: call sweep again with it and a new executor" if there.results.path else (
-        "error.rows has them; with results=PATH a second call would go on from there"
+        "error.rows has them; with results=PATH a second call continues from there"
     )
     return SweepError(f"the executor ended ({type(cause).__name__}: {cause}) with {count:,} of {whole:,} rows made; {where}")
 
@@ -451,6 +474,6 @@ def read_sweep(path: "os.PathLike[str] | str") -> Sweep:
             failure = tuple(Link(it) if isinstance(it, list) else it for it in line["failure"])
             rows[json.dumps(line["failure"])] = row_of(line, failure)
         except (TypeError, ValueError):
-            raise ResultsError(f"line {at} of {name} is no row of a sweep") from None
+            raise ResultsError(f"line {at} of {name} is not a row of a sweep") from None
     intact = rows.pop("[]", FailureRow(()))
     return Sweep(rows.values(), intact, str(head.get("kind", "")), str(head.get("numbering", "")), name)

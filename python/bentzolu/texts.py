@@ -185,14 +185,14 @@ class ByNode:
         while nodes[-1] != target:
             nodes.append(self._at(nodes[-1]).to(label))
             if nodes[-1] is None or len(nodes) > len(self.nodes):
-                raise FormatError(f"the rows lead from {source!r} nowhere or in a circle, and not to {target!r}")
+                raise FormatError(f"the rows do not lead from {source!r} to {target!r}, but in a circle or nowhere")
         return nodes
 
 
 @dataclass(frozen=True, repr=False)
 class Plan(ByNode):
-    """The labels and intervals of all nodes: `kind` is `shortest`, `tree` or `compact`, `nodes` has a `NodePlan` for each
-    node of the graph. In a notebook a plan is shown as a table.
+    """The labels and intervals of all nodes: `kind` is `shortest`, `tree`, `compact` or `landmark`, `nodes` has a `NodePlan` for
+    each node of the graph. In a notebook a plan is shown as a table.
 
     As arrays, with the nodes numbered in their order in `nodes`: `starts` has the labels at which the intervals of all
     nodes begin, `ports` the number of the neighbour of each, and those of node i are at `rows[i]` up to but without
@@ -371,6 +371,8 @@ class Stats:
     over all ordered pairs of nodes; `worst` is the first pair of the greatest stretch, and `compactness` the first port
     with the most intervals (both None for a single node). `dependencies` is empty where no ring of links can wait for
     each other; else links from each of its nodes to the next, and from the last to the first, are such a ring.
+    `landmarks` are the nodes that a plan of kind landmark has for landmarks, the root first, and `most_stretch` is the most
+    percent of the distance that its walks weigh; both are None for another kind.
     `further` has lines that this package does not know, each line's words after its first word.
     """
 
@@ -386,6 +388,8 @@ class Stats:
     compactness: Optional[Compactness] = None
     bits: Optional[Bits] = None
     dependencies: Optional[Tuple[Hashable, ...]] = None
+    landmarks: Optional[Tuple[Hashable, ...]] = None
+    most_stretch: Optional[int] = None
     further: Dict[str, Tuple[str, ...]] = field(default_factory=dict)
 
     def _repr_html_(self) -> str:
@@ -485,7 +489,7 @@ class Verdict:
 def number(word: str, line: int) -> int:
     """A whole number of decimal digits."""
     if not (word.isascii() and word.isdigit()):
-        raise FormatError(f"{word!r} is no number", line)
+        raise FormatError(f"{word!r} is not a number", line)
     return int(word)
 
 
@@ -498,7 +502,7 @@ def headed(text: str, head: str, count: int) -> tuple[list[str], list[tuple[int,
     """The words of the first line, which has to begin with `head` and to have so many, and the further lines."""
     lines = lines_of(text)
     if not lines or lines[0][1][0] != head or len(lines[0][1]) < count:
-        raise FormatError(f"no line {head!r} at the front", 1)
+        raise FormatError(f"the text does not begin with a line {head!r}", 1)
     return lines[0][1], lines[1:]
 
 
@@ -506,7 +510,7 @@ def count_of_row(row: str, line: int, names: NodeNames) -> int:
     """The number of intervals of a row `START NEIGHBOUR ..`, of which each word is looked at."""
     words = row.split(" ")
     if len(words) % 2 != 0:
-        raise FormatError("a start without a neighbour", line)
+        raise FormatError("a start has no neighbour", line)
     starts = words[::2]
     together = "".join(starts)
     if not (together.isascii() and together.isdigit() and all(starts)):
@@ -550,13 +554,13 @@ def read_plan(text: str, names: NodeNames = SAME) -> Plan:
     for at, line in enumerate(lines[1:], 2):
         name, *label = line.split(" ", 2)
         if not label:
-            raise FormatError("a node without a label", at)
+            raise FormatError("a node has no label", at)
         row = "".join(label[1:])
         count += count_of_row(row, at, names) if row else 0
         node = names.node(name)
         nodes[node] = NodePlan.of_row(node, number(label[0], at), row, names)
     if len(nodes) != number(first[2], 1) or count != number(first[3], 1):
-        raise FormatError("not as many nodes and intervals as it says", 1)
+        raise FormatError("the numbers of nodes and intervals do not match the first line", 1)
     return Plan(first[1], nodes)
 
 
@@ -567,7 +571,7 @@ def read_prefix(word: str, to: str, bits: int, line: int, names: NodeNames) -> P
     """A prefix, of a word `VALUE/LENGTH` and the one after it."""
     found = PREFIX.fullmatch(word)
     if not found:
-        raise FormatError(f"{word!r} is no prefix", line)
+        raise FormatError(f"{word!r} is not a prefix", line)
     return Prefix(int(found[1]), int(found[2]), bits, None if to == "#" else names.node(to))
 
 
@@ -598,17 +602,17 @@ def read_prefixes(text: str, names: NodeNames = SAME) -> Prefixes:
     nodes: dict[Any, NodePrefixes] = {}
     for line, words in lines:
         if len(words) < 2 or len(words) % 2 != 0:
-            raise FormatError("a prefix without a neighbour", line)
+            raise FormatError("a prefix has no neighbour", line)
         node = names.node(words[0])
         found = (read_prefix(word, to, bits, line, names) for word, to in zip(words[2::2], words[3::2]))
         nodes[node] = NodePrefixes(node, number(words[1], line), tuple(found))
     tables = Prefixes(first[1], bits, nodes)
     if len(nodes) != number(first[2], 1) or tables.prefixes != number(first[4], 1):
-        raise FormatError("not as many nodes and prefixes as it says", 1)
+        raise FormatError("the numbers of nodes and prefixes do not match the first line", 1)
     for line, of in enumerate(nodes.values(), 2):
         unknown = next((it.to for it in of.prefixes if it.to is not None and it.to not in nodes), None)
         if unknown is not None:
-            raise FormatError(f"the text has no node {unknown!r}; where there is no neighbour, `route` prints `#`", line)
+            raise FormatError(f"the text has no node {unknown!r}; `#` is printed where there is no neighbour", line)
     return tables
 
 
@@ -636,11 +640,11 @@ def read_walk(text: str, names: NodeNames = SAME) -> Walk:
     """
     first, lines = headed(text, "walk", 6)
     if not lines:
-        raise FormatError("no node", 1)
+        raise FormatError("the walk has no nodes", 1)
     steps = []
     for line, words in lines[:-1]:
         if len(words) != 6:
-            raise FormatError("not six words", line)
+            raise FormatError("expected six words", line)
         name, label, start, end, to, weight = words
         interval = Interval(number(start, line), number(end, line), names.node(to))
         steps.append(WalkStep(names.node(name), number(label, line), interval, number(weight, line)))
@@ -655,7 +659,7 @@ def read_dependencies(words: list[str], line: int, names: NodeNames) -> tuple[No
     if words == ["acyclic"]:
         return ()
     if words[:1] != ["cycle"]:
-        raise FormatError("neither 'acyclic' nor 'cycle'", line)
+        raise FormatError("expected 'acyclic' or 'cycle'", line)
     return tuple(map(names.node, words[1:]))
 
 
@@ -666,7 +670,10 @@ FIGURES: dict[str, tuple[int | None, Callable[[list[str], int, NodeNames], Any]]
     "compactness": (3, lambda words, line, names: Compactness(names.node(words[0]), names.node(words[1]), number(words[2], line))),
     "bits": (2, lambda words, line, names: Bits(number(words[0], line), number(words[1], line))),
     "dependencies": (None, read_dependencies),
+    "landmarks": (None, lambda words, line, names: tuple(map(names.node, words))),
+    "stretch": (1, lambda words, line, names: number(words[0], line)),
 }
+FIELDS = {"greatest-row": "greatest_row", "stretch": "most_stretch"}  # of `Stats`, where they have another name than the figure
 NUMBERS = ("links", "starts", "entries", "walks", "distances")
 
 
@@ -676,7 +683,7 @@ def read_figure(line: int, words: list[str], names: NodeNames) -> Any:
     unknown: tuple[int | None, None] = (1 if name in NUMBERS else None, None)
     length, read = FIGURES.get(name, unknown)
     if length is not None and len(words) != length:
-        raise FormatError(f"not {length + 1} words", line)
+        raise FormatError(f"expected {length + 1} words", line)
     if name in NUMBERS:
         return number(words[0], line)
     return read(words, line, names) if read else tuple(words)
@@ -708,8 +715,8 @@ def read_stats(text: str, names: NodeNames = SAME) -> Stats:
     found = {words[0]: read_figure(line, words, names) for line, words in lines}
     for name in (*NUMBERS, "greatest-row"):
         if name not in found:
-            raise FormatError(f"no line {name!r}", 1)
-    known = {name.replace("-", "_"): found.pop(name) for name in (*NUMBERS, *FIGURES) if name in found}
+            raise FormatError(f"there is no line {name!r}", 1)
+    known = {FIELDS.get(name, name): found.pop(name) for name in (*NUMBERS, *FIGURES) if name in found}
     return Stats(kind=first[1], nodes=number(first[2], 1), further=found, **known)
 
 
@@ -720,11 +727,11 @@ def read_segments(words: list[str], line: int, names: NodeNames) -> tuple[Segmen
         if word.startswith("#"):
             segments.append((number(word[1:], line), []))
         elif not segments:
-            raise FormatError("a hop before a segment", line)
+            raise FormatError("a hop comes before the first segment", line)
         else:
             segments[-1][1].append(names.node(word))
     if not segments or not all(hops for _, hops in segments):
-        raise FormatError("no segment, or one without a hop", line)
+        raise FormatError("there is no segment, or one without a hop", line)
     return tuple(Segment(epoch, tuple(hops)) for epoch, hops in segments)
 
 
@@ -732,7 +739,7 @@ def read_row(version: int, line: int, words: list[str], names: NodeNames) -> Pac
     """A packet, of a row's words."""
     words = list(words)
     if len(words) < 6:
-        raise FormatError("fewer than six words", line)
+        raise FormatError("expected at least six words", line)
     row_number = number(words.pop(0), line)
     epoch = number(words.pop(0), line) if version == 1 else 0  # version 2 has epochs in its segments
     source, target = names.node(words.pop(0)), names.node(words.pop(0))
@@ -741,9 +748,9 @@ def read_row(version: int, line: int, words: list[str], names: NodeNames) -> Pac
     if fate in ("down", "full") and len(words) > 2:
         link = names.node(words.pop(0)), names.node(words.pop(0))
     elif fate not in ("delivered", "retired", "left"):
-        raise FormatError(f"{fate!r} is no fate", line)
+        raise FormatError(f"{fate!r} is not a fate", line)
     if not words:
-        raise FormatError("no hop", line)
+        raise FormatError("there are no hops", line)
     if version == 1:
         segments: tuple[Segment, ...] = (Segment(epoch, tuple(names.node(word) for word in words)),)
     else:
@@ -776,7 +783,7 @@ def read_trace(text: str, names: NodeNames = SAME) -> tuple[int, tuple[Packet, .
     """
     first, lines = headed(text, "trace", 2)
     if first[1] not in ("1", "2"):
-        raise FormatError("the versions are 1 and 2", 1)
+        raise FormatError("the version must be 1 or 2", 1)
     version = int(first[1])
     return version, tuple(read_row(version, line, words, names) for line, words in lines)
 
@@ -848,4 +855,4 @@ def read_verdict(text: str, sentence: str | None = None) -> Verdict:
         return Verdict(True, rows=number(words[1], 1))
     if len(words) >= 3 and words[0] == "finding":
         return Verdict(False, line=number(words[1], 1), kind=words[2].rstrip(":"), sentence=sentence)
-    raise FormatError("neither 'ok' nor 'finding'", 1)
+    raise FormatError("expected 'ok' or 'finding'", 1)

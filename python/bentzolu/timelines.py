@@ -91,7 +91,7 @@ class Timeline(Sequence[Snapshot]):
         for at, graph in snapshots:
             net = network_of(graph, weight)
             if states and not at > states[-1][0]:
-                raise GraphError(f"the times of snapshots ascend, and {at:g} comes after {states[-1][0]:g}")
+                raise GraphError(f"the times of snapshots must ascend, but {at:g} comes after {states[-1][0]:g}")
             up = []
             for u, v, w in net.links:
                 a, b = net.nodes[u], net.nodes[v]
@@ -135,7 +135,7 @@ class Timeline(Sequence[Snapshot]):
         most_range : and while it is at most so many kilometres long; by default of any length
         """
         if not (step > 0 and orbits >= 0 and math.isfinite(step) and math.isfinite(orbits)):
-            raise GraphError(f"a timeline of {orbits} orbits by steps of {step} seconds is none: give a step above 0")
+            raise GraphError(f"a timeline of {orbits} orbits by steps of {step} seconds is not possible: give a step above 0")
         inside, across = shell.inside(), shell.across()
         made = cls.__new__(cls)
         made._begin([(a, b, 1) for a, b in inside + across], _states(shell, len(inside), across, step, orbits, latitude, most_range))
@@ -160,7 +160,8 @@ class Timeline(Sequence[Snapshot]):
 
         Parameters
         ----------
-        kind, root : of each install; the first node is the root by default
+        kind, root : of each install; the first node is the root by default. `simulate`, `live` and `check` take the landmarks and the
+            stretch of kind landmark
         mode : `"reactive"`: links change, packets of the old epoch meet what is down, and a plan is installed. `"ahead"`: what will go
             down is left out of a new plan while it is up, and goes down once the old epoch has drained
         inject : how many packets are injected at each point between two nodes that are drawn; or a call of the time and a
@@ -176,7 +177,7 @@ class Timeline(Sequence[Snapshot]):
         list of steps, for `simulate`, `live` and `check` over `graph`
         """
         if mode not in MODES:
-            raise StepError(f"{mode!r} is no mode: give one of {', '.join(MODES)}")
+            raise StepError(f"{mode!r} is not a mode: give one of {', '.join(MODES)}")
         luck, epoch, found = random.Random(seed), 1, []
         start = self.nodes[0] if root is None else root
 
@@ -207,6 +208,7 @@ class Timeline(Sequence[Snapshot]):
     def replay(
         self, kind: str = "shortest", numbering: Any = "depth-first", root: Optional[Hashable] = None, *, executor: Any = None,
         most: Optional[int] = None, retries: int = 3, program: Any = None, timeout: Optional[float] = None,
+        landmarks: Optional[int] = None, stretch: Optional[int] = None,
     ) -> Replay:
         """The figures of the plans over time.
 
@@ -217,7 +219,7 @@ class Timeline(Sequence[Snapshot]):
             order of nodes
         executor : a `concurrent.futures.Executor`, which the caller opens and closes; by default this process makes all rows
         most : how many snapshots; all by default
-        retries, program, timeout : as for `sweep`
+        retries, program, timeout, landmarks, stretch : as for `sweep`
 
         Returns
         -------
@@ -231,7 +233,7 @@ class Timeline(Sequence[Snapshot]):
             where NumPy is not installed
         """
         optional.numpy()
-        task = asked_of(network_of(self.graph), (), kind, root, numbering, True, program, timeout).task
+        task = asked_of(network_of(self.graph), (), kind, root, numbering, True, program, timeout, landmarks, stretch).task
         numbers = self._numbers(task)
         states = [tuple(sorted(numbers[i] for i in down)) for down in self._down[:most]]
         todo = [(at, states[at - 1] if at else None, state) for at, state in enumerate(states)]
@@ -277,7 +279,7 @@ class Timeline(Sequence[Snapshot]):
         from . import figures
 
         if what not in TimeRow._fields[1:]:
-            raise SweepError(f"rows over time have no figure {what!r}: there are {', '.join(TimeRow._fields[1:])}")
+            raise SweepError(f"rows over time have no figure {what!r}: give one of {', '.join(TimeRow._fields[1:])}")
         return figures.plot_times(rows if isinstance(rows, Mapping) else {what: rows}, ax, what)
 
 
@@ -330,7 +332,7 @@ def parts(maker: measuring.ByPlans, down: Sequence[int]) -> List[int]:
 
 def apart(maker: measuring.ByPlans, down: Sequence[int]) -> str:
     sizes = parts(maker, down)
-    return f"{len(sizes):,} parts that no link joins, the largest of {max(sizes):,} nodes"
+    return f"{len(sizes):,} unconnected parts, the largest of {max(sizes):,} nodes"
 
 
 def compared(maker: measuring.ByPlans, earlier: Optional[Planned], now: Planned, down: Sequence[int]) -> Dict[str, Any]:

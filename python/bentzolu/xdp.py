@@ -1,7 +1,7 @@
 """The plane in XDP of a node of Linux: its program `bentzolu-xdp`, and tables for it of the plans that `route` prints.
 
 The program loads the plane, asks the kernel for each label before it says that a table is there, and counts. This module
-finds it, makes lines and rows for it, and tells what it says. `plane/make` builds it.
+finds it, makes lines and rows for it, and reports what it says. `plane/make` builds it.
 """
 from __future__ import annotations
 
@@ -21,7 +21,7 @@ VARIABLE, NAME, OBJECT = "BENTZOLU_XDP", "bentzolu-xdp", "plane.bpf.o"
 BUILT = pathlib.Path(__file__).resolve().parents[2] / "plane" / "out" / NAME
 PINS = "/sys/fs/bpf/bentzolu"
 MODES = ("xdp", "generic", "tc")
-KINDS = ("shortest", "compact", "tree")
+KINDS = ("shortest", "compact", "tree", "landmark")
 
 
 class PlaneError(BentzoluError):
@@ -98,7 +98,7 @@ def call(words: Sequence[str], data: bytes = b"", pins: str = PINS) -> str:
         raise PlaneError(f"the program {path} can't be run: {error.strerror}") from error
     if done.returncode:
         said = done.stderr.decode("utf-8", "replace").strip().splitlines() or [f"status {done.returncode}"]
-        raise PlaneError(said[0].removeprefix(f"{NAME}: ") if done.returncode == 1 else f"{path} took none of these words: {' '.join(words)}")
+        raise PlaneError(said[0].removeprefix(f"{NAME}: ") if done.returncode == 1 else f"{path} does not understand: {' '.join(words)}")
     return done.stdout.decode("utf-8", "replace")
 
 
@@ -137,9 +137,9 @@ def read_plane(text: str) -> Plane:
         elif words[:1] == ["epoch"] and len(words) == 4:
             epochs.append(int(words[1]))
         else:
-            raise PlaneError(f"{NAME} says {line!r}, which is no line of a plane: is it of another version?")
+            raise PlaneError(f"{NAME} says {line!r}, which is not a line of a plane: does it have another version?")
     if head is None:
-        raise PlaneError(f"{NAME} says nothing of the node: is it of another version?")
+        raise PlaneError(f"{NAME} does not report the node: does it have another version?")
     return Plane(head[1], head[3], int(head[9]), tuple(ports), tuple(epochs))
 
 
@@ -151,7 +151,7 @@ def plan_of(topology: str, kind: str, words: Sequence[str] = ()) -> texts.Plan:
     topology : str
         The path of the file.
     kind : str
-        `shortest`, `compact` or `tree`.
+        `shortest`, `compact`, `tree` or `landmark`.
     words : sequence of str
         Further words of `route plan`, as `--root R`.
 

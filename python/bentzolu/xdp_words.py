@@ -9,18 +9,19 @@ import sys
 from typing import Any, List, Optional, Tuple
 
 from . import lines, xdp
+from .options import add_detour, detour_words
 from .xdp import KINDS, MODES, PINS, PlaneError
 
-ABOUT = """The plane of a node in XDP: programs of BPF forward by a table of each epoch, and tables are installed, stamped and
-retired under traffic. A table is asked for each label in the kernel before it is said to be there. It wants root, or CAP_BPF and
-CAP_NET_ADMIN, and the program bentzolu-xdp, which plane/make builds. Status 0: done; 1: refused, and the tables that were there
-stay; 2: the words were not understood."""
+ABOUT = """Run the data plane of a node in XDP. BPF programs forward by one table for each epoch. Tables are installed, stamped and
+retired under traffic. Every label of a new table is first checked in the kernel. This needs root, or CAP_SYS_ADMIN and
+CAP_NET_ADMIN, and the program bentzolu-xdp, which plane/make builds. Exit status: 0 done; 1 refused, and the tables stay as
+they were; 2 the arguments were not understood."""
 
 
 def add_words(commands: Any) -> None:
     """Adds the words of `xdp` to a parser's commands."""
-    parser = commands.add_parser("xdp", help="forwards packets of a node in XDP, and changes its tables under traffic", description=ABOUT)
-    parser.add_argument("--pins", metavar="DIR", default=PINS, help=f"the folder of a bpffs for the plane's maps ({PINS})")
+    parser = commands.add_parser("xdp", help="forward packets of a node in XDP, and change its tables under traffic", description=ABOUT)
+    parser.add_argument("--pins", metavar="DIR", default=PINS, help=f"folder in a bpffs for the plane's maps (default: {PINS})")
     parts = parser.add_subparsers(dest="word", required=True, metavar="WORD")
 
     def add(name: str, act: Any, what: str) -> argparse.ArgumentParser:
@@ -28,38 +29,39 @@ def add_words(commands: Any) -> None:
         part.set_defaults(act=act)
         return part
 
-    part = add("up", up, "loads the plane, and attaches it to the node's devices")
-    part.add_argument("--node", metavar="A", required=True, help="the node that this is")
-    part.add_argument("--mode", choices=MODES, default="xdp", help="XDP in the driver (xdp), XDP after it (generic), or tc")
-    part.add_argument("--own", nargs=2, metavar=("HOST", "PLANE"), default=("bz0", "bz1"), help="the ends of the node's own link (bz0 bz1)")
-    part.add_argument("--object", metavar="FILE", help="the object of the programs; the one beside bentzolu-xdp by default")
+    part = add("up", up, "load the plane, and attach it to the node's devices")
+    part.add_argument("--node", metavar="A", required=True, help="name of this node")
+    part.add_argument("--mode", choices=MODES, default="xdp", help="XDP in the driver (xdp, the default), XDP after the driver (generic), or tc")
+    part.add_argument("--own", nargs=2, metavar=("HOST", "PLANE"), default=("bz0", "bz1"), help="ends of the node's own link (default: bz0 bz1)")
+    part.add_argument("--object", metavar="FILE", help="object file of the BPF programs (default: the one next to bentzolu-xdp)")
     part.add_argument("ports", metavar="NEIGHBOUR=DEVICE[,MAC]", nargs="*",
-                      help="a port for each neighbour, in the order in which the topology lists them; the neighbour's hardware address "
-                      "is looked for in the kernel's table of neighbours where none is given")
+                      help="one port for each neighbour, in the order of the topology; without MAC the hardware address is taken "
+                      "from the kernel's table of neighbours")
     for name, act, what in (
-        ("table", table, "prints the lines of an epoch's table"),
-        ("install", install, "adds the table of an epoch, and asks the kernel for each label first"),
-        ("check", install, "asks the kernel for each label of an epoch"),
+        ("table", table, "print the lines of an epoch's table"),
+        ("install", install, "add the table of an epoch, after every label is checked in the kernel"),
+        ("check", install, "check every label of an epoch in the kernel"),
     ):
         part = add(name, act, what)
-        part.add_argument("epoch", metavar="E", type=int, help="the epoch, 1 to 65535")
-        part.add_argument("topology", metavar="TOPOLOGY", help="a topology of route")
-        part.add_argument("--node", metavar="A", required=name == "table", help="the node; that of the plane by default")
-        part.add_argument("--kind", choices=KINDS, default="shortest", help="how packets are routed; by default shortest")
-        part.add_argument("--root", metavar="R", help="the node from which labels are numbered")
-        part.add_argument("--numbering", metavar="HOW", help="depth-first, tour, or a file with an order of the nodes")
+        part.add_argument("epoch", metavar="E", type=int, help="epoch, 1 to 65535")
+        part.add_argument("topology", metavar="TOPOLOGY", help="topology file")
+        part.add_argument("--node", metavar="A", required=name == "table", help="node (default: that of the plane)")
+        part.add_argument("--kind", choices=KINDS, default="shortest", help="kind of the plan (default: shortest)")
+        part.add_argument("--root", metavar="R", help="node from which labels are numbered (default: the first node)")
+        part.add_argument("--numbering", metavar="HOW", help="depth-first (the default), tour, or a file that lists the nodes in order")
+        add_detour(part)
         if name == "table":
-            part.add_argument("--binary", action="store_true", help="prints bytes in place of hexadecimal words")
-            part.add_argument("--neighbours", metavar="B,C..", help="the neighbours by their ports; those of the topology by default")
+            part.add_argument("--binary", action="store_true", help="print bytes instead of hexadecimal words")
+            part.add_argument("--neighbours", metavar="B,C..", help="neighbours in the order of their ports (default: that of the topology)")
         else:
-            part.add_argument("--lines", metavar="FILE", help="a file with the table's lines, as `xdp table` prints them; made of the row by default")
-    for name, what in (("stamp", "lets the node's own packets get an epoch"), ("retire", "removes the table of an epoch")):
-        add(name, plain, what).add_argument("epoch", metavar="E", type=int, help="the epoch")
-    part = add("drained", plain, "waits until nothing of an epoch is under way, by the counters of nodes")
-    part.add_argument("epoch", metavar="E", type=int, help="the epoch")
-    part.add_argument("more", metavar="DIR", nargs="*", help="the folders of all nodes' planes, where they are on this machine; else this one alone")
-    for name, what in (("counts", "prints what became of packets, by epoch"), ("show", "prints the node, its ports and its epochs"),
-                       ("down", "removes the plane")):
+            part.add_argument("--lines", metavar="FILE", help="file with the table's lines, as `xdp table` prints them (default: they are made from the row)")
+    for name, what in (("stamp", "stamp the node's own packets with an epoch"), ("retire", "remove the table of an epoch")):
+        add(name, plain, what).add_argument("epoch", metavar="E", type=int, help="epoch")
+    part = add("drained", plain, "wait until no packet of an epoch is under way, by the counters of the nodes")
+    part.add_argument("epoch", metavar="E", type=int, help="epoch")
+    part.add_argument("more", metavar="DIR", nargs="*", help="folders of the planes of all nodes, if they are on this machine (default: only this one)")
+    for name, what in (("counts", "print what became of packets, by epoch"), ("show", "print the node, its ports and its epochs"),
+                       ("down", "remove the plane")):
         add(name, plain, what)
 
 
@@ -68,7 +70,7 @@ def port_of(word: str) -> Tuple[str, str, str]:
     neighbour, _, rest = word.partition("=")
     device, _, mac = rest.partition(",")
     if not neighbour or not device:
-        raise PlaneError(f"{word!r} is no port: give it as NEIGHBOUR=DEVICE, or NEIGHBOUR=DEVICE,MAC")
+        raise PlaneError(f"{word!r} is not a port: give NEIGHBOUR=DEVICE or NEIGHBOUR=DEVICE,MAC")
     return neighbour, device, mac or mac_at(device)
 
 
@@ -80,7 +82,7 @@ def mac_at(device: str) -> str:
     except (OSError, ValueError):
         found = set()
     if len(found) != 1:
-        raise PlaneError(f"the kernel knows {len(found) or 'no'} hardware addresses at {device}: give the neighbour's as NEIGHBOUR={device},MAC")
+        raise PlaneError(f"the kernel knows {len(found) or 'no'} hardware addresses at {device}: give the neighbour's address, as NEIGHBOUR={device},MAC")
     return str(found.pop())
 
 
@@ -94,7 +96,8 @@ def up(found: argparse.Namespace) -> int:
 
 def chosen(found: argparse.Namespace) -> List[str]:
     """The further words of `route plan`."""
-    return [f"--{name}={getattr(found, name)}" for name in ("root", "numbering") if getattr(found, name) is not None]
+    given = [f"--{name}={getattr(found, name)}" for name in ("root", "numbering") if getattr(found, name) is not None]
+    return [*given, *detour_words(found.landmarks, found.stretch)]
 
 
 def neighbours_in(topology: str, node: str) -> List[str]:
@@ -102,7 +105,7 @@ def neighbours_in(topology: str, node: str) -> List[str]:
     from .lab_net import links_of
     form = "edgelist" if topology.endswith((".edgelist", ".wel")) else "adjlist"
     with open(topology, encoding="utf-8", errors="replace") as file:
-        links: Any = links_of(file.read(), form)  # type: ignore[no-untyped-call]  # the lab has no annotations yet
+        links: Any = links_of(file.read(), form)
     return [b if a == node else a for a, b in links if node in (a, b)]
 
 
@@ -119,7 +122,7 @@ def install(found: argparse.Namespace) -> int:
     """`install` and `check`."""
     there = xdp.read_plane(xdp.call(["show"], b"", found.pins))
     if found.node not in (None, there.node):
-        raise PlaneError(f"the plane at {found.pins} is of {there.node}, and not of {found.node}")
+        raise PlaneError(f"the plane at {found.pins} belongs to {there.node}, not to {found.node}")
     plan = xdp.plan_of(found.topology, found.kind, chosen(found))
     row = xdp.row_at(plan, there.node, [port.neighbour for port in there.ports])
     data: Optional[bytes] = None

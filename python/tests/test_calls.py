@@ -88,7 +88,7 @@ class SourcesTest(Folder):
         path = self.file("x.adjlist", "1 2\n")
         self.assertEqual(bentzolu.walk(path, "1", "2").path, ["1", "2"])
         for call in (lambda: bentzolu.walk(path, 1, 2), lambda: bentzolu.plan(path, root=1), lambda: bentzolu.simulate(path, [("inject", 1, 2)])):
-            with self.assertRaisesRegex(bentzolu.UnknownNodeError, "strings, and 1 is none"):
+            with self.assertRaisesRegex(bentzolu.UnknownNodeError, "strings, but 1 is not a string"):
                 call()
 
     def test_names_that_look_like_options(self):
@@ -96,10 +96,10 @@ class SourcesTest(Folder):
         self.assertEqual(bentzolu.walk(path, "-a", "b", root="--kind").path, ["-a", "--kind", "b"])
 
     def test_warnings(self):
-        with self.assertWarnsRegex(bentzolu.TopologyWarning, "each line has three words, the last a number") as caught:
+        with self.assertWarnsRegex(bentzolu.TopologyWarning, "each line has three words and ends in a number") as caught:
             bentzolu.plan(self.file("x.txt", "a b 1\nb c 2\n"))
         self.assertEqual(caught.filename, __file__)
-        with self.assertWarnsRegex(bentzolu.TopologyWarning, "x.csv: csv: weights times 2, exactly") as caught:
+        with self.assertWarnsRegex(bentzolu.TopologyWarning, "x.csv: csv: weights are multiplied by 2, exactly") as caught:
             bentzolu.simulate(self.file("x.csv", "a,b,1.5\nb,c,2\n"), [])
         self.assertEqual(caught.filename, __file__)
         with warnings.catch_warnings():
@@ -123,19 +123,19 @@ class SentencesTest(unittest.TestCase):
 
     def test_graphs(self):
         apart = networkx.Graph([((0, 0), "New York"), (2, 3)])
-        error = self.fault(lambda: bentzolu.plan(apart), "opening Disconnected: (0, 0) has no path to 2: 2 parts")
+        error = self.fault(lambda: bentzolu.plan(apart), "opening Disconnected: (0, 0) has no path to 2: the network has 2 parts")
         self.assertEqual((error.kind, error.text), ("Disconnected", "opening Disconnected\n"))
-        self.assertEqual(error.sentence, "(0, 0) has no path to 2: 2 parts, the largest has 2 nodes")
+        self.assertEqual(error.sentence, "(0, 0) has no path to 2: the network has 2 parts, the largest of 2 nodes")
         self.fault(lambda: bentzolu.plan(networkx.Graph()), "opening Empty: no nodes")
         great = networkx.path_graph(1025)
-        self.fault(lambda: bentzolu.simulate(great, []), "opening TooLarge: 1025 nodes; where packets travel there are at most 1024")
+        self.fault(lambda: bentzolu.simulate(great, []), "opening TooLarge: 1025 nodes; networks where packets travel have at most 1024")
 
     def test_scripts(self):
         ring = networkx.cycle_graph(4)
         error = self.fault(lambda: bentzolu.simulate(ring, [("inject", 0, 2), ("down", 0, 2)]), "script 2 UnknownLink (down 0 2): ", "0", "2")
         self.assertEqual((error.line, error.content), (2, "down 0 2"))
         self.fault(lambda: bentzolu.live(ring, "drain\nfly 0\n"), "script 2 BadCommand (fly 0): unknown command 'fly'")
-        self.fault(lambda: bentzolu.live(ring, [("act", 0)]), "'act' is a command of 'route sim' alone")
+        self.fault(lambda: bentzolu.live(ring, [("act", 0)]), "'act' is a command of 'sim' only")
 
     def test_files(self):
         with tempfile.NamedTemporaryFile("w", suffix=".edgelist") as file:
@@ -200,10 +200,10 @@ class PrefixesTest(unittest.TestCase):
 class FiguresTest(unittest.TestCase):
     def test_nodes_of_figures(self):
         graph = networkx.grid_2d_graph(4, 4)
-        for kind in ("shortest", "compact", "tree"):
+        for kind in ("shortest", "compact", "tree", "landmark"):
             stats = bentzolu.stats(graph, kind)
             plan = bentzolu.plan(graph, kind)
-            self.assertEqual(stats.further, {})
+            self.assertEqual((stats.further, stats.landmarks is None, stats.most_stretch), ({}, kind != "landmark", 300 if kind == "landmark" else None))
             port = stats.compactness
             self.assertEqual(sum(it.to == port.to for it in plan.nodes[port.node].intervals), port.intervals)
             self.assertEqual(port.intervals, max(max(map(len, it.by_neighbour().values())) for it in plan.nodes.values()))
@@ -211,7 +211,7 @@ class FiguresTest(unittest.TestCase):
             self.assertEqual(stats.bits, (sum(count * (4 + ports) for count, ports in row.values()), 15 * sum(ports for _, ports in row.values())))
             ring = stats.dependencies
             self.assertTrue(all(graph.has_edge(u, v) for u, v in zip(ring, ring[1:] + ring[:1])))
-            self.assertTrue(kind == "shortest" or (ring == ()) == (kind == "tree"))
+            self.assertTrue(kind in ("shortest", "landmark") or (ring == ()) == (kind == "tree"))
         self.assertEqual((bentzolu.stats([(1, 1)]).compactness, bentzolu.stats([(1, 1)]).worst), (None, None))
 
 
@@ -296,7 +296,12 @@ class TablesTest(unittest.TestCase):
         )
         self.look_at_table(stats, "<td>48</td>", "264 / 64 = 4.125", "<td>none</td>")
         self.assertEqual(stats.dependencies, ())
-        for bad in ("bits 1", "dependencies maybe", "greatest-row q", "worst a b 1 x", "links many"):
+        of_landmarks = bentzolu.read_stats(
+            "stats landmark 3\nlinks 3\nstarts 4\nentries 6\ngreatest-row a 2\nwalks 8\ndistances 6\nlandmarks a c\nstretch 200\n"
+        )
+        self.assertEqual((of_landmarks.landmarks, of_landmarks.most_stretch), (("a", "c"), 200))
+        self.look_at_table(of_landmarks, "<td>a c</td>", "200 percent")
+        for bad in ("bits 1", "stretch", "stretch wide", "dependencies maybe", "greatest-row q", "worst a b 1 x", "links many"):
             with self.subTest(bad), self.assertRaises(bentzolu.FormatError):
                 bentzolu.read_stats(f"stats tree 1\nlinks 0\nstarts 0\nentries 0\ngreatest-row a 0\nwalks 0\ndistances 0\n{bad}\n")
 
@@ -360,7 +365,7 @@ class CommandsTest(Folder):
         file, out = self.file("x.csv", "a b,c,1.5\nc,d,2\n"), self.folder / "out"
         status, output, faults = self.call("plan", file, "--kind", "tree", "--root", "c")
         self.assertEqual((status, output), (0, "plan tree 3 4\na_b 1 2 c\nc 0 1 a_b 2 d\nd 2 0 c\n"))
-        self.assertEqual(faults, "bentzolu plan: x.csv: csv: weights times 2, exactly\n")
+        self.assertEqual(faults, "bentzolu plan: x.csv: csv: weights are multiplied by 2, exactly\n")
         self.assertEqual(self.call("stats", file, "--weight", "1", "-o", out)[:2], (0, ""))
         self.assertEqual(bentzolu.read_stats(out.read_text()).distances, 8)
         output, faults = program.run(["plan"], [("topology", RING)])

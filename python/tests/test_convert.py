@@ -131,8 +131,8 @@ class FormatsTest(unittest.TestCase):
     def test_graphml(self):
         edges, _, notes = self.edges(GRAPHML, "graphml")
         self.assertEqual(edges, "Vienna Graz 5\nGraz Linz 12\n")
-        self.assertIn("weights times 4, exactly", notes)
-        self.assertIn("1 further edges", notes)
+        self.assertIn("weights are multiplied by 4, exactly", notes)
+        self.assertIn("1 more edges", notes)
 
     def test_json(self):
         self.assertEqual(self.edges(JSON, "json")[0], "1 (0,1) 4\n(0,1) b_c 2\n")
@@ -142,14 +142,14 @@ class FormatsTest(unittest.TestCase):
         for text, format in [(SNDLIB, "sndlib"), (SNDLIB_XML, "sndlib-xml")]:
             edges, _, notes = self.edges(text, format)
             self.assertEqual(edges, "N1 N2 1\nN2 N3 1\n")
-            self.assertIn("distance, routing_cost, setup_cost: --weight", notes)
+            self.assertIn("distance, routing_cost, setup_cost: choose one by --weight", notes)
             self.assertEqual(self.edges(text, format, weight="routing_cost")[0], "N1 N2 5\nN2 N3 2\n")
             self.assertEqual(self.edges(text, format, weight="distance")[0], "N1 N2 260\nN2 N3 612\n")
 
     def test_rocketfuel(self):
         edges, _, notes = self.edges(ROCKETFUEL, "rocketfuel")
         self.assertEqual(edges, "Sydney,+Australia1 Perth,+Australia2 7\nPerth,+Australia2 Darwin,+Australia3 2\n")
-        self.assertIn("1 further edges", notes)
+        self.assertIn("1 more edges", notes)
         self.assertEqual(self.edges("a b 7.5\nb c 0.25\n", "rocketfuel")[0], "a b 30\nb c 1\n")
 
     def test_caida(self):
@@ -172,7 +172,7 @@ class FormatsTest(unittest.TestCase):
         edges, names, notes = self.edges(DOT, "dot")
         self.assertEqual(edges, 'a b 3\nb c 3\na d 5\nc e 2\nc New_"York" 2\n')
         self.assertEqual(names.node('New_"York"'), 'New "York"')
-        self.assertIn("1 edges from a node to itself left out; directions are dropped", notes)
+        self.assertIn("1 edges from a node to itself are left out; directions are dropped", notes)
         for text, wanted in [
             ("graph {a -- {b c} -- d [len=1.5]; a -- b [len=2,weight=1]}", "a b 3\na c 3\nb d 3\nc d 3\n"),
             ('graph\n{ "a"+"b" -- -3.5 }', "ab _-3.5 1\n"), ("# x\nGRAPH g { a; }", "a a 1\n"), ('graph { "a\\\nb" -- c }', "ab c 1\n"),
@@ -183,7 +183,7 @@ class FormatsTest(unittest.TestCase):
     @needs_networkx
     def test_gexf(self):
         edges, _, notes = self.edges(GEXF, "gexf")
-        self.assertEqual((edges, notes), ("Vienna Graz 3\nGraz Linz 6\n", "3 nodes, 2 links; weights times 2, exactly"))
+        self.assertEqual((edges, notes), ("Vienna Graz 3\nGraz Linz 6\n", "3 nodes, 2 links; weights are multiplied by 2, exactly"))
         self.assertIn("directions are dropped", self.edges(GEXF.replace("undirected", "directed"), "gexf")[2])
 
     @needs_networkx
@@ -286,11 +286,11 @@ class FormatsTest(unittest.TestCase):
 
     def test_parts(self):
         text = "a,b\nc,d\nd,e\nf,f\n"
-        with self.assertRaisesRegex(bentzolu.BentzoluError, "3 parts .* of 3, 2, 1 nodes; --largest"):
+        with self.assertRaisesRegex(bentzolu.BentzoluError, "3 unconnected parts, of 3, 2, 1 nodes; --largest"):
             converted(text, "csv")
         edges, _, notes = self.edges(text, "csv", largest=True)
         self.assertEqual(edges, "c d 1\nd e 1\n")
-        self.assertIn("the largest of 3 parts, 3 of 6 nodes", notes)
+        self.assertIn("only the largest of 3 parts is taken, with 3 of 6 nodes", notes)
         self.assertEqual(self.edges("f,f\n", "csv")[0], "f f 1\n")
 
     def test_every_format_is_tried_here(self):
@@ -344,10 +344,10 @@ class CommandTest(unittest.TestCase):
         self.assertEqual(self.convert("net.txt", "a b 2\n", "--from", "rocketfuel")[:2], (0, "a b 2\n"))
         status, output, faults = self.convert("net.txt", "a b 2\n")
         self.assertEqual((status, output), (1, ""))
-        self.assertIn("give --from, one of", faults)
+        self.assertIn("give --from with one of", faults)
 
     def test_refusals(self):
-        for text, said in [("a,b\nc,d\n", "--largest"), ("a,b,x\nc,d,y\n", "line 2"), ("", "no node")]:
+        for text, said in [("a,b\nc,d\n", "--largest"), ("a,b,x\nc,d,y\n", "line 2"), ("", "no nodes")]:
             status, output, faults = self.convert("net.csv", text)
             self.assertEqual((status, output), (1, ""))
             self.assertIn(said, faults)

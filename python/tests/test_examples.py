@@ -63,7 +63,7 @@ class OneValue(unittest.TestCase):
 
     def test_unknown(self):
         for call, more in ((bentzolu.plan, ()), (bentzolu.live, (STEPS,))):
-            with self.assertRaisesRegex(TypeError, "'numbers' is no option of this call; it takes kind, root, weight"):
+            with self.assertRaisesRegex(TypeError, "'numbers' is not an option of this call, which takes kind, root, weight"):
                 call(EDGES, *more, numbers=1)
-        with self.assertRaisesRegex(TypeError, "'restamps' is no option"):
+        with self.assertRaisesRegex(TypeError, "'restamps' is not an option"):
             bentzolu.plan(EDGES, restamps=1)

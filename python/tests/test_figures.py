@@ -131,7 +131,7 @@ class WordsTest(unittest.TestCase):
 
     def test_what_is_refused(self):
         for given, text in (
-            (("sweep", NSFNET, "-o", "a.png"), "no file of a sweep"), (("sweep", self.rows, self.rows, "-o", "a.png"), "one sweep"),
+            (("sweep", NSFNET, "-o", "a.png"), "not a file of a sweep"), (("sweep", self.rows, self.rows, "-o", "a.png"), "one sweep"),
             (("sweep", self.folder / "none", "-o", "a.png"), "No such file"), (("sweep", self.rows, "-o", "a.word"), "a.word can't be written"),
         ):
             status, told = self.run_words(*given[:-1], self.folder / given[-1])

@@ -6,15 +6,20 @@ import json
 import os
 import pathlib
 import re
+import ssl
 import tempfile
+import time
 import unittest
+from unittest import mock
 
 import common  # noqa: F401
-from bentzolu import __main__ as program, fleet, plane
+from bentzolu import __main__ as program, fleet, fleet_kernel, fleet_words, plane
 from bentzolu.fleet import Add, Begin, Collect, Drop, Flip, Floor, Held, Rebuild, Record, Refuse, Remove, Rows, Said, Spec, Stamp, State, Times, Want, Work
 from bentzolu.fleet_calls import Created, Delete, Done, Equals, Event, Get, Grant, Pair, Put, Txn, is_in, under
 from bentzolu.fleet_controller import changes_of
 from bentzolu.fleet_etcd import Access, Etcd, EtcdError, change_json, compare_json, event_of
+from bentzolu.fleet_kernel import Linux
+from bentzolu.fleet_run import Runner
 from bentzolu.fleet_words import Config, members_of, phase_of, read_ports, status_json, status_text
 
 OLD, NEW = ((1, 2, "b"),), ((1, 1, "b"), (2, 2, "c"))
@@ -157,7 +162,7 @@ class Controllers(unittest.TestCase):
         self.assertEqual(fleet.spec_of(found, 0.0, Times()).without, (("a", "b"),))
         fleet.learn(found, fleet.LIVE + "c", record(4, 4, down=["a"]).text())
         self.assertIsNone(fleet.spec_of(found, 0.0, Times()))
-        self.assertIn("the links that are up leave some node alone: the plan stays as it is", fleet.waits(found))
+        self.assertIn("the links that are up do not connect all nodes: the plan stays as it is", fleet.waits(found))
 
     def test_absent(self):
         found = state(live={node: record(4, 4) for node in "ab"})
@@ -213,6 +218,7 @@ class Planes(unittest.TestCase):
         self.assertIn("fwd ip6 to fe80::2 device eth1", text)
         self.assertEqual(plane.elements(3, [(0, 0, 2), (1, 4, 6)]), "element netdev bz ways { fd00:3::0 : goto to_2, fd00:3::1-fd00:3::4 : goto to_6 }")
         self.assertEqual(plane.stamp(0), ["flush chain netdev bz stamp"])
+        self.assertIn("counter drop", plane.table({2: None, 3: plane.Way("fe80::3", "eth2")}, 5, "of_x"))
 
     def test_read(self):
         keys = ["fd00:3::1", {"prefix": {"addr": "fd00:3::4", "len": 126}}, {"range": ["fd00:2::1", "fd00:2::5"]}]
@@ -220,6 +226,23 @@ class Planes(unittest.TestCase):
         stamp = {"rule": {"chain": "stamp", "expr": [{"mangle": {"key": {}, "value": 0xFD000003}}]}}
         found = plane.read_table({"nftables": [{"chain": {"name": "stamp"}}, {"map": {"elem": elements}}, stamp]})
         self.assertEqual(found, plane.Table({3: ((1, 1, "to_2"), (4, 7, "to_2")), 2: ((1, 5, "to_2"),)}, 3, {"stamp": 1}))
+
+    def test_ways(self):
+        rules = [{"chain": "to_2", "expr": [{"accept": None}]}, {"chain": "to_2", "expr": [{"fwd": {"dev": "eth1", "family": "ip6", "addr": "fe80::2"}}]},
+                 {"chain": "to_3", "expr": [{"counter": {}}, {"drop": None}]}, {"chain": "in", "expr": [{"fwd": {}}]}]
+        self.assertEqual(plane.ways_of({"nftables": [{"chain": {"name": "to_2"}}, *({"rule": it} for it in rules)]}), {2: plane.Way("fe80::2", "eth1")})
+
+    def test_a_port_that_is_not_there(self):
+        linux, asked = Linux(), []
+        linux.member = fleet.Member(1, 0, {"b": fleet.Port(2, "nope", "fe80::2"), "c": fleet.Port(3, "eth2", "fe80::3")})
+        linux.missing = {"b"}
+        table = {"nftables": [{"rule": {"chain": "to_2", "expr": [{"fwd": {"dev": "eth1", "addr": "fe80::22"}}]}}]}
+        with mock.patch.object(fleet_kernel, "run", lambda command, *_, **__: asked.append(command) or json.dumps(table)):
+            linux.used = linux.ports_used({"eth1", "eth2"})
+            self.assertEqual(linux.used["b"], fleet.Port(2, "eth1", "fe80::22"))  # it goes on by the way that it had
+            self.assertEqual(linux.ports_used({"eth2"}).keys(), {"c"})
+        self.assertIn("this router has no device nope to b: the topology is not that of the routers", linux.says())
+        self.assertIn("fwd ip6 to fe80::22 device eth1", linux.base())
 
 
 class Calls(unittest.TestCase):
@@ -237,6 +260,11 @@ class Calls(unittest.TestCase):
                 Etcd(Access([endpoint]))
         with self.assertRaises(EtcdError):
             Etcd(Access(["https://x:2379"], ca="/nowhere/ca.pem"))
+        for code, wanted in ((9, "is this machine's clock right"), (10, "is this machine's clock right"), (20, "is `ca` the authority's file")):
+            fault = ssl.SSLCertVerificationError()
+            fault.verify_code, fault.verify_message = code, "it is not good"
+            with self.subTest(code), mock.patch("asyncio.open_connection", side_effect=fault), self.assertRaisesRegex(EtcdError, wanted):
+                asyncio.run(Etcd(Access(["http://x:2379"])).open())
         etcd = Etcd(Access(["http://x:2379"], user="agent-a"))
         self.assertIn("refuses the user agent-a", etcd.sentence("/v3/x", "authentication failed, invalid user ID or password"))
         self.assertIn("does not permit agent-a", etcd.sentence("/v3/x", "etcdserver: permission denied"))
@@ -292,12 +320,23 @@ class Gateway(unittest.TestCase):
         refused = (404, '{"error": "requested lease not found", "code": 5}')
         self.assertEqual(self.asked({**self.VERSION, "/v3/lease/grant": [refused, (200, '{"ID": "9"}')]}, twice), 9)
         for answers, wanted in (
-            ({"/version": [(200, '{"etcdserver": "3.3.11"}')]}, "is etcd 3.3.11: 3.4 or a later 3 is wanted"),
+            ({"/version": [(200, '{"etcdserver": "3.3.11"}')]}, "is etcd 3.3.11: 3.4 or a later version of 3 is needed"),
             ({"/version": [(200, "<html>")]}, "is it etcd"), ({"/version": [(404, "{}")]}, "of no known version"),
             ({**self.VERSION, "/v3/lease/grant": [(403, '{"error": "etcdserver: permission denied", "code": 7}')]}, "does not permit nobody"),
         ):
             with self.subTest(wanted), self.assertRaisesRegex(EtcdError, wanted):
                 self.asked(answers, lambda etcd: etcd.ask(Grant(5)))
+
+    def test_busy(self):
+        busy = (503, '{"error": "etcdserver: request timed out", "code": 14}')
+        for many, wanted in ((2, 9), (9, None)):
+            answers = {**self.VERSION, "/v3/lease/grant": [*[busy] * many, (200, '{"ID": "9"}')]}
+            with self.subTest(many), mock.patch.object(fleet_words, "REST", 0.0):
+                if wanted:
+                    self.assertEqual(self.asked(answers, lambda etcd: fleet_words.again(lambda: etcd.ask(Grant(5)))), wanted)
+                else:
+                    with self.assertRaisesRegex(EtcdError, "request timed out"):
+                        self.asked(answers, lambda etcd: fleet_words.again(lambda: etcd.ask(Grant(5))))
 
     def test_tokens(self):
         answers = {**self.VERSION, "/v3/auth/authenticate": [(200, '{"token": "t1"}'), (200, '{"token": "t2"}')],
@@ -332,8 +371,8 @@ class Words(unittest.TestCase):
 
     def test_configurations(self):
         for text, wanted in (
-            ("", "has no endpoints in [etcd]"), ("nonsense", "is no configuration"), ("[etcd]\nendpoint = x\n", "nothing is known of endpoint in [etcd]; it has ca"),
-            ("[other]\nx = y\n", "nothing is known of x in [other]"), ("[etcd]\nendpoints = x\n", "is no endpoint"),
+            ("", "lacks endpoints in [etcd]"), ("nonsense", "is not a configuration"), ("[etcd]\nendpoint = x\n", "unknown setting endpoint in [etcd]; known are ca"),
+            ("[other]\nx = y\n", "unknown setting x in [other]"), ("[etcd]\nendpoints = x\n", "is not an endpoint"),
             ("[etcd]\nendpoints = http://127.0.0.1:9\n", "can't be asked"),
         ):
             with self.subTest(text):
@@ -342,9 +381,9 @@ class Words(unittest.TestCase):
                 self.assertIn(wanted, told)
         self.assertIn("No such file", self.said("fleet", "status", "--config", "/nowhere/f.conf")[1])
         lock = f"lock = {self.folder}/lock\n"
-        self.assertIn("has no node", self.said("agent", "--config", self.file("a.conf", f"[agent]\n{lock}"))[1])
+        self.assertIn("lacks node", self.said("agent", "--config", self.file("a.conf", f"[agent]\n{lock}"))[1])
         path = self.file("a.conf", f"[etcd]\nendpoints = http://x\n[agent]\nnode = a\n{lock}lease = soon\n")
-        self.assertIn("lease in [agent] is 'soon'; give seconds, 2 or more", self.said("agent", "--config", path)[1])
+        self.assertIn("lease in [agent] is 'soon'; give at least 2 seconds", self.said("agent", "--config", path)[1])
         self.assertEqual(Config(path).etcd().endpoint, "http://x")
 
     def test_ports(self):
@@ -379,6 +418,21 @@ class Words(unittest.TestCase):
             with self.subTest(words), contextlib.redirect_stderr(io.StringIO()), self.assertRaises(SystemExit) as ended:
                 program.main(words)
             self.assertEqual(ended.exception.code, 2)
+
+    def test_clocks(self):
+        async def looked(day):
+            told = []
+            runner = Runner(None, lambda what, **about: told.append((what, about["why"])))
+            for seconds in day:
+                with mock.patch("time.time", lambda: time.monotonic() + runner.apart + seconds):
+                    runner.look_at_clock()
+            runner.threads.shutdown()
+            return told
+        self.assertEqual(asyncio.run(looked([0, 1, -1])), [])
+        told = asyncio.run(looked([3600, 0, -3600]))
+        self.assertEqual([it[0] for it in told], ["clock", "clock"])
+        self.assertIn("jumped by +3600 s", told[0][1])
+        self.assertIn("jumped by -3600 s", told[1][1])
 
     @unittest.skipUnless(os.path.exists("/proc/self/ns/net"), "it wants Linux")
     def test_one_agent(self):

@@ -81,7 +81,7 @@ class GraphsTest(unittest.TestCase):
             graph, text = advice(*weights)
             factor = float(text.split("bentzolu.scaled(G, ")[1].split(")")[0])
             prepared(bentzolu.scaled(graph, factor))
-        self.assertIn("no factor helps", advice(1, -2)[1])
+        self.assertIn("no factor makes", advice(1, -2)[1])
 
     def test_unknown_nodes(self):
         graph = networkx.path_graph(3)

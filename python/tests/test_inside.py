@@ -8,7 +8,7 @@ import unittest
 from unittest import mock
 
 from common import ROUTE, bentzolu, graphs, needs_networkx, needs_route, networkx
-from bentzolu import inside, program, texts
+from bentzolu import inside, program
 
 NAMED = os.environ.get(inside.VARIABLE)
 needs_library = unittest.skipUnless(NAMED, f"{inside.VARIABLE} names no library")
@@ -159,7 +159,7 @@ class SameAnswersTest(unittest.TestCase):
             nodes = list(graph)
             steps = [("inject", nodes[0], nodes[-1]), ("install", "compact", nodes[-1]), ("retire", 7), ("drain",)]
             with self.subTest(name):
-                for kind in ("shortest", "compact", "tree"):
+                for kind in ("shortest", "compact", "tree", "landmark"):
                     for call in (bentzolu.plan, bentzolu.stats, bentzolu.prefixes, bentzolu.ranges, bentzolu.draw):
                         self.same(call, graph, kind, nodes[-1])
                 self.same(bentzolu.walk, graph, nodes[0], nodes[-1])

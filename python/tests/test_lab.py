@@ -5,7 +5,7 @@ import unittest
 
 import common
 from bentzolu import __main__ as program
-from bentzolu import check_ranges, read_ranges
+from bentzolu import check_ranges, lab, read_ranges
 from bentzolu.lab import is_connected, order_of
 from bentzolu.lab_check import Story, Way, findings, texts_of
 from bentzolu.lab_judge import Judge
@@ -131,11 +131,32 @@ class Words(unittest.TestCase):
         for words in (
             ["lab"], ["lab", "--kind", "best", "net"], ["lab", "--rate", "0", "net"], ["lab", "--seconds", "-1", "net"],
             ["lab", "--root", "a", "--numbering", "order", "net"], ["lab", "--in-place", "--down", "a", "b", "net"],
-            ["lab", "--print", "--run", "bash", "net"], ["lab", "net", "net"],
+            ["lab", "--print", "--run", "bash", "net"], ["lab", "net", "net"], ["lab", "--kind", "landmark", "--to", "tree", "net"],
+            ["lab", "--kind", "landmark", "--numbering", "order", "net"], ["lab", "--landmarks", "2", "net"], ["lab", "--stretch", "200", "net"],
         ):
             with self.subTest(words), contextlib.redirect_stderr(io.StringIO()), self.assertRaises(SystemExit) as ended:
                 program.main(words)
             self.assertEqual(ended.exception.code, 2)
+
+    @common.needs_route
+    def test_landmarks(self):
+        net = str(common.TOP / "examples/nsfnet.edgelist")
+        for words, judged in (
+            (["--kind", "landmark"], True), (["--kind", "landmark", "--to", "landmark"], True), (["--kind", "compact", "--to", "landmark"], None),
+            (["--kind", "shortest", "--to", "landmark", "--landmarks", "2", "--stretch", "150", "--down", "Boulder", "Lincoln"], True),
+        ):
+            found = program.words().parse_args(["lab", "--root", "Houston", *words, net])
+            made = lab.prepare(found)
+            with self.subTest(words):
+                self.assertEqual([made.plans[epoch].kind for epoch in (1, 2)], [found.kind, found.to])
+                self.assertEqual(made.plans[1].labels, made.plans[2].labels)
+                self.assertEqual(made.plans[1].labels["Houston"], 0)
+                self.assertTrue(judged is None or (made.story is not None) == judged)
+                self.assertIn("add element netdev", lab.printed(made))
+        asked = ["lab", "--kind", "landmark", "--to", "landmark", "--landmarks", "4", "--down", "Pittsburgh", "Ithaca", net]
+        with contextlib.redirect_stderr(io.StringIO()) as told:
+            self.assertEqual(program.main(asked), 1)
+        self.assertEqual(told.getvalue(), "lab: the two plans number the nodes differently\n")
 
     def test_no_topology(self):
         with contextlib.redirect_stderr(io.StringIO()) as told:

@@ -70,25 +70,25 @@ class Lines(unittest.TestCase):
         good = ((0, 0), (5, 1))
         for row, epoch, said in (
             (Row(14, 4, ((5, 1), (0, 0))), 1, "ascend"), (Row(14, 4, ((0, 0), (0, 1))), 1, "ascend"), (Row(14, 4, ((0, 0), (14, 1))), 1, "ascend"),
-            (Row(14, 14, good), 1, "its own one among them"), (Row(0, 0, ()), 1, "16,384 labels"), (Row(16385, 0, good), 1, "16,384 labels"),
-            (Row(14, 4, ((0, 1024),)), 1, "a port is 0 to 1023"), (Row(14, 4, good), 0, "an epoch is 1 to 65535"),
-            (Row(14, 4, good), 65536, "an epoch is 1 to 65535"), (Row(16384, 4, tuple((0, 0) for _ in range(16385))), 1, "at most 16,384 starts"),
+            (Row(14, 14, good), 1, "its own label is one of them"), (Row(0, 0, ()), 1, "16,384 labels"), (Row(16385, 0, good), 1, "16,384 labels"),
+            (Row(14, 4, ((0, 1024),)), 1, "a port is a number from 0 to 1023"), (Row(14, 4, good), 0, "an epoch is a number from 1 to 65535"),
+            (Row(14, 4, good), 65536, "an epoch is a number from 1 to 65535"), (Row(16384, 4, tuple((0, 0) for _ in range(16385))), 1, "at most 16,384 starts"),
         ):
             with self.subTest(said=said), self.assertRaisesRegex(LinesError, said):
                 lines.lines(row, epoch)
         for data in (b"", b"x", b"00000001\n", bytes(130), ("0000000g " * 32).strip().encode()):
             with self.subTest(data=data), self.assertRaises(LinesError):
                 lines.read(data)
-        with self.assertRaisesRegex(LinesError, "none of the labels"):
+        with self.assertRaisesRegex(LinesError, "is not in the range"):
             lines.port_by_lines(lines.lines(Row(14, 4, good), 1), 14)
-        with self.assertRaisesRegex(LinesError, "leads nowhere"):
+        with self.assertRaisesRegex(LinesError, "needs at least one start"):
             Row(1, 0, ()).port(0)
 
     def test_row_of(self):
         plan = read_plan(PLAN)
         self.assertEqual(xdp.row_at(plan, "b", ["a", "c"]), Row(3, 1, ((2, 1),)))
         self.assertEqual(xdp.row_at(plan, "b", ["c"]).text(), "3 1\n2 0\n")
-        with self.assertRaisesRegex(LinesError, "there is no port"):
+        with self.assertRaisesRegex(LinesError, "which has no port"):
             xdp.row_at(plan, "b", ["a"])
         with self.assertRaisesRegex(xdp.PlaneError, "no node d"):
             xdp.row_at(plan, "d", [])
@@ -126,7 +126,7 @@ class Words(unittest.TestCase):
         self.tool('echo "bentzolu-xdp: no plane is up at $2: begin with \\`up\\`" >&2\nexit 1\n')
         self.assertEqual(self.said("--pins", "/p", "counts"), (1, b"", "bentzolu xdp: no plane is up at /p: begin with `up`\n"))
         self.assertEqual(self.said("stamp", "1")[0], 1)
-        self.assertIn("as NEIGHBOUR=DEVICE", self.said("up", "--node", "a", "b")[2])
+        self.assertIn("give NEIGHBOUR=DEVICE", self.said("up", "--node", "a", "b")[2])
 
     def test_missing(self):
         with mock.patch.dict(os.environ, {xdp.VARIABLE: "/nowhere/bentzolu-xdp"}):
@@ -167,7 +167,7 @@ class Words(unittest.TestCase):
             self.assertEqual((status, said), (0, ""))
             self.assertEqual(pathlib.Path(pins).read_text(), "14 4\n0 1\n5 0\n")
             self.assertEqual(lines.read(pathlib.Path(f"{pins}.lines").read_bytes())[0][:5], (2, 14, 4, 0, 0))
-            self.assertIn("and not of Houston", self.said("--pins", pins, "install", "2", net, "--node", "Houston")[2])
+            self.assertIn("not to Houston", self.said("--pins", pins, "install", "2", net, "--node", "Houston")[2])
 
     def test_parser(self):
         parser = argparse.ArgumentParser()

@@ -103,7 +103,7 @@ class RuleTest(unittest.TestCase):
             self.assertLessEqual(reached, 1.25 * min(best.values()), seed)
 
     def test_what_is_refused(self):
-        for how in ({"kind": "tree"}, {"price": -1}, {"every": 0}, {"price": float("nan")}):
+        for how in ({"kind": "tree"}, {"kind": "landmark"}, {"price": -1}, {"every": 0}, {"price": float("nan")}):
             with self.assertRaises(bentzolu.SweepError):
                 bentzolu.Relabeller(**how)
 

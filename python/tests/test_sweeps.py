@@ -140,7 +140,7 @@ class RowsTest(unittest.TestCase):
     def test_rows_beside_a_plain_loop(self):
         compared = 0
         for name, edges in networks().items():
-            for kind, numbering in (("shortest", "depth-first"), ("compact", "keep"), ("tree", "depth-first")):
+            for kind, numbering in (("shortest", "depth-first"), ("compact", "keep"), ("tree", "depth-first"), ("landmark", "depth-first")):
                 plain = Plain(edges, kind, self.folder, "keep" if numbering == "keep" else None)
                 with self.subTest(name, kind=kind):
                     rows = bentzolu.sweep(self.file(edges), kind=kind, numbering=numbering)
@@ -148,15 +148,16 @@ class RowsTest(unittest.TestCase):
                         self.assertEqual(row.failure, (edge[:2],))
                         self.compare(plain, row, [edge], [])
                         compared += 1
-        self.assertGreater(compared, 120)
+        self.assertGreater(compared, 160)
 
     def test_nodes_and_several_links(self):
         edges = networks()["weighed grid"]
-        plain = Plain(edges, "compact", self.folder)
-        nodes, file = plain.nodes, self.file(edges)
-        rows = bentzolu.sweep(file, "nodes", "compact")
-        for node in (nodes[0], nodes[5], nodes[11]):
-            self.compare(plain, next(row for row in rows if row.failure == (node,)), [], [node])
+        for kind in ("landmark", "compact"):
+            plain = Plain(edges, kind, self.folder)
+            nodes, file = plain.nodes, self.file(edges)
+            rows = bentzolu.sweep(file, "nodes", kind)
+            for node in (nodes[0], nodes[5], nodes[11]):
+                self.compare(plain, next(row for row in rows if row.failure == (node,)), [], [node])
         both = [edges[0][:2], edges[7][:2]]
         row = bentzolu.sweep(file, [both], "compact")[0]
         self.compare(plain, row, [edges[0], edges[7]], [])
@@ -164,7 +165,7 @@ class RowsTest(unittest.TestCase):
         self.compare(plain, row, [edges[0]], [nodes[4]])
 
     def test_the_whole_network_is_as_stats_has_it(self):
-        for kind in ("shortest", "compact", "tree"):
+        for kind in ("shortest", "compact", "tree", "landmark"):
             rows, stats = bentzolu.sweep(NSFNET, [], kind), bentzolu.stats(NSFNET, kind)
             self.assertEqual((rows.intact.intervals, rows.intact.bits, len(rows)), (stats.starts, stats.bits.rows, 0))
             self.assertEqual(rows.intact.worst_stretch, float(stats.worst.stretch))
@@ -255,7 +256,7 @@ class FileTest(unittest.TestCase):
     def test_another_sweeps_file(self):
         self.sweep()
         before = self.path.read_bytes()
-        for how in ({"kind": "compact"}, {"numbering": "tour"}, {"root": "Houston"}, {"weight": None}):
+        for how in ({"kind": "compact"}, {"kind": "landmark", "stretch": 150}, {"numbering": "tour"}, {"root": "Houston"}, {"weight": None}):
             with self.assertRaisesRegex(bentzolu.ResultsError, "another sweep.*give another file"):
                 self.sweep(**how)
         self.assertEqual(self.path.read_bytes(), before)
@@ -377,21 +378,25 @@ class RefusedTest(unittest.TestCase):
 
     def test_failures(self):
         error = bentzolu.FailureError
-        self.refused(error, r"\('Seattle', 'Houston'\) is no link.*give the list", NSFNET, [("Seattle", "Houston")])
-        self.refused(error, "'Oslo' is no failure", NSFNET, ["Oslo"])
+        self.refused(error, r"\('Seattle', 'Houston'\) is not a link.*give the list", NSFNET, [("Seattle", "Houston")])
+        self.refused(error, "'Oslo' is not a failure", NSFNET, ["Oslo"])
         self.refused(error, "'Oslo'.*neither a link nor a node", NSFNET, [["Seattle", "Oslo"]])
         for failures in ("edges", 0, 22, True, 2.5, [[]], [3]):
             self.refused(error, r"fail|neither", NSFNET, failures)
 
     def test_plans(self):
         error = bentzolu.SweepError
-        self.refused(error, "no kind of plan", NSFNET, kind="fast")
-        self.refused(error, "'Oslo' is no node", NSFNET, root="Oslo")
-        self.refused(error, "no numbering of a sweep", NSFNET, numbering="spiral")
-        self.refused(error, "depth-first alone", NSFNET, kind="tree", numbering="keep")
+        self.refused(error, "not a kind of plan", NSFNET, kind="fast")
+        self.refused(error, "'Oslo' is not a node", NSFNET, root="Oslo")
+        self.refused(error, "not a numbering for a sweep", NSFNET, numbering="spiral")
+        self.refused(error, "always numbered depth-first", NSFNET, kind="tree", numbering="keep")
+        self.refused(error, "always numbered by its landmarks", NSFNET, kind="landmark", numbering="keep")
+        self.refused(error, "stretch is of kind landmark alone", NSFNET, kind="compact", stretch=200)
+        self.refused(error, "landmarks of 0 is none: give a number from 1 to 65,535", NSFNET, kind="landmark", landmarks=0)
+        self.refused(error, "stretch of 301 is none: give a number from 100 to 300", NSFNET, kind="landmark", stretch=301)
         self.refused(error, "each of the 14 nodes once", NSFNET, numbering=["Seattle"])
-        self.refused(error, "no node of the network", NSFNET, numbering=["Oslo"])
-        self.refused(error, "give a number from 1", NSFNET, chunk=0)
+        self.refused(error, "not a node of the network", NSFNET, numbering=["Oslo"])
+        self.refused(error, "give a number of at least 1", NSFNET, chunk=0)
         self.refused(bentzolu.ProgramNotFoundError, "can't be run", NSFNET, program="/no/such/route")
         self.refused(bentzolu.BentzoluError, "2 parts", [("a", "b"), ("c", "d")])
 
@@ -439,8 +444,8 @@ class WordsTest(unittest.TestCase):
 
     def test_what_is_refused(self):
         for given, text in (
-            (("--failures", "edges"), "neither links nor nodes"), (("--jobs", 0), "give a number from 1"), (("--root", "Oslo"), "no node"),
-            (("--numbering", "/no/such/order"), "nor a file"), (("--by", "badness"), "no figure"),
+            (("--failures", "edges"), "give links, nodes, or a number"), (("--jobs", 0), "give a number of at least 1"), (("--root", "Oslo"), "not a node"),
+            (("--numbering", "/no/such/order"), "or a readable file"), (("--by", "badness"), "no figure"),
         ):
             status, _, told = self.run_words("sweep", NSFNET, *given)
             self.assertEqual(status, 1)

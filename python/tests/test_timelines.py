@@ -73,7 +73,7 @@ class TimelineTest(unittest.TestCase):
         ):
             with self.assertRaisesRegex(bentzolu.GraphError, text):
                 bentzolu.Timeline(given)
-        with self.assertRaisesRegex(bentzolu.StepError, "no mode"):
+        with self.assertRaisesRegex(bentzolu.StepError, "not a mode"):
             line.steps(mode="late")
         with self.assertRaisesRegex(bentzolu.GraphError, "step above 0"):
             bentzolu.Timeline.of_shell(SMALL, 0)
@@ -132,7 +132,7 @@ class ReplayTest(unittest.TestCase):
     def test_parts(self):
         line = bentzolu.Timeline([(0, [("a", "b"), ("b", "c")]), (1, [("a", "b")]), (2, [("a", "b"), ("b", "c")])])
         rows = line.replay()
-        self.assertEqual([row.fault for row in rows], [None, "2 parts that no link joins, the largest of 2 nodes", None])
+        self.assertEqual([row.fault for row in rows], [None, "2 unconnected parts, the largest of 2 nodes", None])
         self.assertEqual((rows[2].sent, rows[2].intervals), (None, 4))
 
     def test_an_executor_that_ended(self):
