@@ -86,8 +86,9 @@ def test_threads() -> None:
     net, small = (put(f"threads/{nodes}", with_chords(nodes, 4 * nodes)) for nodes in (THREAD_NODES, THREAD_NODES // 2))
     row = put("threads/row", row_of(4 * THREAD_NODES)[1])
     for sub, rest in (("plan", [net]), ("walk", ["--numbering", "tour", small]),
-                      ("plan", ["--kind", "compact", "--numbering", "tour", small]), ("prefixes", ["--kind", "tree", row])):
-        for told in (1, 2, 4, None):
+                      ("plan", ["--kind", "compact", "--numbering", "tour", small]), ("prefixes", ["--kind", "tree", row]),
+                      ("compare", [small])):
+        for told in (1, 2, 3, 4, 5, 64, None):
             words_ = [*call(sub, []), *([] if told is None else ["--threads", str(told)]), *rest]
             got, most, share = threads_seen(words_)
             expect(f"{words_}", got, SOME, b"", 0)

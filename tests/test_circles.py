@@ -9,8 +9,7 @@ from typing import Iterator, Optional, Sequence, Tuple
 
 from support.book import ByTheBook
 from support.checks import count
-from support.marks import built, root
-from support.networks import circle, ring
+from support.marks import built
 from support.places import TOP
 from support.route import brief, expect, put, refused, run
 

@@ -215,10 +215,12 @@ INSTALLED = ("bin/{}", "libexec/bentzolu/{}", "share/man/man1/{}.1", "share/bash
 
 def hands_on(name: str, program: str) -> None:
     """What the installed name does with the words of the Python package, with it and without it."""
-    for word in ("agent", "controller", "fleet"):
-        done = subprocess.run([program, word, "--help"], env={**os.environ, "PYTHONPATH": os.path.join(TOP, "python")}, capture_output=True, timeout=SECONDS)
+    for word in ("agent", "controller", "fleet", "xdp up"):
+        done = subprocess.run([program, *word.split(), "--help"], env={**os.environ, "PYTHONPATH": os.path.join(TOP, "python")}, capture_output=True, timeout=SECONDS)
         expect(f"{name} {word} --help", (done.stdout, done.stderr, done.returncode), SOME, b"", 0)
         count(f"{name} {word} --help is the package's", None if done.stdout.startswith(b"usage: python3 -m bentzolu " + word.encode()) else str(done.stdout[:80]))
+    got = run(["xdp", "table", "--help"], program=program)
+    count(f"{name} xdp table --help is the program's", None if got[0] and b"python3" not in got[0] and got[2] == 0 else str(got))
     bin_folder = work("no python")
     os.makedirs(bin_folder, exist_ok=True)
     with open(os.path.join(bin_folder, "python3"), "w", encoding="ascii") as file:

@@ -9,9 +9,9 @@ from typing import Any, Dict, List, Optional
 from support.checks import count, say
 from support.limits import EPOCHS
 from support.marks import built
-from support.networks import ring
 from support.places import TOP
 from support.route import NAMES, TEXTS, alike, expect, put, run
+from support.saying import OK_SAID
 
 pytestmark = [built]
 
@@ -97,11 +97,10 @@ def test_epochs() -> None:
     expect("sim of all epochs", run(["sim", "--kind", "tree", ring, files[0]]), wanted, b"", 0)
     expect("live of all epochs", run(["live", "--kind", "tree", ring, files[1]]), wanted, b"", 0)
     words_ = ["check", "--kind", "tree", "--explain", ring, files[0]]
-    said = (f"route: {files[2]}: hops and weights are those of the plans; injects, causes of drops and missing rows were not "
-            "looked at (--whole looks at the first two)\n")
+    said = f"route: {OK_SAID.format(files[2])}\n"
     expect("check of all epochs", run([*words_, files[2]]), f"ok {EPOCHS}\n".encode(), said.encode(), 0)
     row = f"99 {EPOCHS} a d 3 delivered a b c d"
     wrong = put("epochs/wrong", "\n".join(["trace 1", *rows, row]) + "\n")
-    told = f"'{row}': node 2 of the hops under epoch {EPOCHS} is 'b', and the plan of epoch {EPOCHS} goes from 'a' to 'd'"
+    told = f"'{row}': node 2 of the hops in epoch {EPOCHS} is 'b', but the plan of epoch {EPOCHS} forwards from 'a' to 'd'"
     expect("a row that leaves the plan of the last epoch", run([*words_, wrong]), f"finding {EPOCHS + 2} NotAPrefix\n".encode(),
            f"route: {wrong}:{EPOCHS + 2}: {told}\n".encode(), 1)

@@ -5,9 +5,9 @@ import itertools
 from typing import List, Tuple
 
 from support.checks import count
-from support.limits import CHANGES
+from support.limits import CHANGES, INPUT_BYTES
 from support.marks import built
-from support.networks import ring
+from support.networks import filled
 from support.route import NAMES, TEXTS, brief, call, expect, good_files, on_terminal, put, run
 from support.saying import OK_SAID, explained_as, said_of
 
@@ -16,12 +16,12 @@ pytestmark = [built]
 
 def script_mistakes() -> List[Tuple[str, str, str]]:
     """Lines of scripts over a ring of a, b, c and d, each with its fault and the sentence on it."""
-    number = "is no number: a whole number from 0 to 65535, of at most five digits, is wanted"
+    number = "is not a whole number from 0 to 65535 (at most five digits)"
     return [
         ("injekt a c", "BadCommand", "unknown command 'injekt' (did you mean 'inject'?)"),
         ("frobnicate", "BadCommand", "unknown command 'frobnicate'"),
-        ("install fastest a", "BadCommand", "'fastest' is no kind of plan: tree, shortest, compact or landmark is wanted"),
-        ("install tre a", "BadCommand", "'tre' is no kind of plan: tree, shortest, compact or landmark is wanted (did you mean 'tree'?)"),
+        ("install fastest a", "BadCommand", "'fastest' is not a kind of plan: use tree, shortest, compact or landmark"),
+        ("install tre a", "BadCommand", "'tre' is not a kind of plan: use tree, shortest, compact or landmark (did you mean 'tree'?)"),
         ("inject a # to c", "BadCommand", "'inject a' is not of the form 'inject A B'"),
         ("drain a", "BadCommand", "'drain a' is not of the form 'drain'"),
         ("down a", "BadCommand", "'down a' is not of the form 'down A B'"),
@@ -40,24 +40,24 @@ def script_mistakes() -> List[Tuple[str, str, str]]:
         ("take a from c", "UnknownLink", "no link between 'a' and 'c'"),
         ("retire one", "BadNumber", f"'one' {number}"),
         ("read a 65536", "BadNumber", f"'65536' {number}"),
-        ("inject a \u00e4", "BadByte", "byte 0xC3 in '\\xC3\\xA4': scripts are of printable ASCII"),
+        ("inject a \u00e4", "BadByte", "byte 0xC3 in '\\xC3\\xA4': scripts must be printable ASCII"),
     ]
 
 
 def refused_steps() -> List[Tuple[str, List[str], str, str]]:
     """Scripts over that ring of which the last line is refused, each with its words and the sentence on it."""
     return [
-        ("inject a b\ninject a b", ["--packets", "1"], "TooManyPackets", "there are as many packets as --packets allows"),
-        ("inject a b\ninject a b", ["--capacity", "1"], "InboxFull", "the inbox holds as many packets as --capacity allows"),
+        ("inject a b\ninject a b", ["--packets", "1"], "TooManyPackets", "the run already has as many packets as --packets allows"),
+        ("inject a b\ninject a b", ["--capacity", "1"], "InboxFull", "the inbox already holds as many packets as --capacity allows"),
         ("inject a b\ninject a b\ntake a inbox\ntake a inbox", [], "HandFull",
-         "the node's hand holds a packet that it has not acted on"),
-        ("take a inbox", [], "Empty", "no packet waits there"),
-        ("act a", [], "HandEmpty", "the node's hand holds no packet"),
+         "the node already holds a packet that it has not acted on"),
+        ("take a inbox", [], "Empty", "no packet is waiting there"),
+        ("act a", [], "HandEmpty", "the node holds no packet"),
         ("read a 9", [], "BadView", "the board has no such version, or the node has read a later one"),
         ("learn 9", [], "NoEpoch", "no epoch has this number"),
         ("up a b", [], "Same", "it changes nothing"),
         ("down a b\ndown c d\ninstall tree a", [], "Disconnected",
-         "over the links that are up some node has no path to some node"),
+         "the links that are up do not connect all nodes"),
         ("install tree a\n" * 64, [], "EpochsFull", "all 64 epochs are used"),
     ]
 
@@ -66,48 +66,48 @@ def found_rows() -> List[Tuple[str, int, str, str]]:
     """Traces of a packet from a to c over that ring, each with its finding and the sentence on it."""
     good = "0 1 a c 2 delivered a b c"
     return [
-        ("trash\n", 1, "NotTrace", "'trash': a trace begins with the line 'trace 1' or 'trace 2'"),
-        (f"trace 1\n{good}", 2, "BadRow", f"'{good}': this is no row of a trace, or it lacks its line feed"),
+        ("trash\n", 1, "NotTrace", "'trash': a trace must begin with the line 'trace 1' or 'trace 2'"),
+        (f"trace 1\n{good}", 2, "BadRow", f"'{good}': this is not a row of a trace, or it does not end in a line feed"),
         ("trace 1\n0 1 a x 2 delivered a b c\n", 2, "UnknownNode", "'0 1 a x 2 delivered a b c': no node 'x' in said/ring"),
         ("trace 1\n0 1 a c 2 delivered a x c\n", 2, "UnknownNode",
-         "'0 1 a c 2 delivered a x c': a hop of it is no node, or no link leads there from the hop before"),
+         "'0 1 a c 2 delivered a x c': a hop is not a node, or has no link from the hop before it"),
         ("trace 1\n0 7 a c 2 delivered a b c\n", 2, "UnknownEpoch",
          "'0 7 a c 2 delivered a b c': the run has no epoch '7'"),
         ("trace 1\n0 1 a c 2 delivered a d c\n", 2, "NotAPrefix",
-         "'0 1 a c 2 delivered a d c': node 2 of the hops under epoch 1 is 'd', and the plan of epoch 1 goes from 'a' to 'b'"),
+         "'0 1 a c 2 delivered a d c': node 2 of the hops in epoch 1 is 'd', but the plan of epoch 1 forwards from 'a' to 'b'"),
         ("trace 1\n0 1 a c 1 delivered a b\n", 2, "NotAtDestination",
-         "'0 1 a c 1 delivered a b': it says delivered, and the walk goes on behind its last hop"),
-        ("trace 1\n0 1 a c 3 delivered a b c\n", 2, "BadWeight", "'0 1 a c 3 delivered a b c': '3' is not the weight of its hops"),
-        (f"trace 1\n{good}\n{good}\n", 3, "Repeated", f"'{good}': the id '0' stands on line 2 already"),
+         "'0 1 a c 1 delivered a b': the fate is 'delivered', but the path continues after the last hop"),
+        ("trace 1\n0 1 a c 3 delivered a b c\n", 2, "BadWeight", "'0 1 a c 3 delivered a b c': '3' is not the weight of the hops"),
+        (f"trace 1\n{good}\n{good}\n", 3, "Repeated", f"'{good}': id '0' is already used on line 2"),
         ("trace 2\n0 x c 2 delivered #1 a b c\n", 2, "UnknownNode", "'0 x c 2 delivered #1 a b c': no node 'x' in said/ring"),
         ("trace 2\n0 a x 2 delivered #1 a b c\n", 2, "UnknownNode", "'0 a x 2 delivered #1 a b c': no node 'x' in said/ring"),
         ("trace 2\n0 a c 2 delivered #1 a b x\n", 2, "UnknownNode",
-         "'0 a c 2 delivered #1 a b x': a hop of it is no node, or no link leads there from the hop before"),
+         "'0 a c 2 delivered #1 a b x': a hop is not a node, or has no link from the hop before it"),
         ("trace 2\n0 a c 2 delivered #1 a b #7 b c\n", 2, "UnknownEpoch",
-         "'0 a c 2 delivered #1 a b #7 b c': the run has not all of its epochs"),
-        ("trace 2\n0 a c 3 delivered #1 a b c\n", 2, "BadWeight", "'0 a c 3 delivered #1 a b c': '3' is not the weight of its hops"),
+         "'0 a c 2 delivered #1 a b #7 b c': the run does not have all epochs of this row"),
+        ("trace 2\n0 a c 3 delivered #1 a b c\n", 2, "BadWeight", "'0 a c 3 delivered #1 a b c': '3' is not the weight of the hops"),
     ]
 
 
 def left_rows() -> List[Tuple[int, str, str]]:
     """Rows that leave the walks of tree plans over that ring, each with the trace's version and the sentence on where. The
     plan of epoch 1 goes over a b c d, that of epoch 2, from the root c, over c b a d."""
-    behind = "the destination"
+    end = "the destination"
     return [
-        (1, "0 1 a c 2 left a d c", "node 2 of the hops under epoch 1 is 'd', and the plan of epoch 1 goes from 'a' to 'b'"),
-        (1, "0 1 a d 2 left a b a", "node 3 of the hops under epoch 1 is 'a', and the plan of epoch 1 goes from 'b' to 'c'"),
-        (1, "0 1 a c 3 left a b c d", f"node 4 of the hops under epoch 1 is 'd': they go on behind 'c', {behind}"),
-        (1, "0 1 a c 1 left b c", "the hops under epoch 1 begin at 'b', and the packet stood at 'a'"),
-        (1, "0 1 a c 1 down c d a b", "the plan of epoch 1 goes on from 'b' to 'c', which the fate does not say"),
-        (1, "0 1 a c 1 full b a a b", "the plan of epoch 1 goes on from 'b' to 'c', which the fate does not say"),
-        (1, "0 1 a c 2 full c d a b c", f"'c' is {behind}: no plan goes on from there"),
-        (2, "0 a d 3 left #1 a b #2 b c d", "node 2 of the hops under epoch 2 is 'c', and the plan of epoch 2 goes from 'b' to 'a'"),
-        (2, "0 a d 3 left #1 a d #2 d", "node 2 of the hops under epoch 1 is 'd', and the plan of epoch 1 goes from 'a' to 'b'"),
-        (2, "0 a d 4 left #1 a b #2 b a d c", f"node 4 of the hops under epoch 2 is 'c': they go on behind 'd', {behind}"),
-        (2, "0 a c 1 left #1 a b #2 c", "the hops under epoch 2 begin at 'c', and the packet stood at 'b'"),
-        (2, "0 a c 2 left #2 a b #1 b c", "epoch 1 stands behind epoch 2: epochs rise"),
-        (2, "0 a c 2 left #1 a b #1 b c", "epoch 1 stands behind epoch 1: epochs rise"),
-        (2, "0 a d 1 down b c #1 a b #2 b", "the plan of epoch 2 goes on from 'b' to 'a', which the fate does not say"),
+        (1, "0 1 a c 2 left a d c", "node 2 of the hops in epoch 1 is 'd', but the plan of epoch 1 forwards from 'a' to 'b'"),
+        (1, "0 1 a d 2 left a b a", "node 3 of the hops in epoch 1 is 'a', but the plan of epoch 1 forwards from 'b' to 'c'"),
+        (1, "0 1 a c 3 left a b c d", f"node 4 of the hops in epoch 1 is 'd': they continue after 'c', {end}"),
+        (1, "0 1 a c 1 left b c", "the hops in epoch 1 begin at 'b', but the packet was at 'a'"),
+        (1, "0 1 a c 1 down c d a b", "the plan of epoch 1 forwards from 'b' to 'c', but the fate says otherwise"),
+        (1, "0 1 a c 1 full b a a b", "the plan of epoch 1 forwards from 'b' to 'c', but the fate says otherwise"),
+        (1, "0 1 a c 2 full c d a b c", f"'c' is {end}: no plan forwards from there"),
+        (2, "0 a d 3 left #1 a b #2 b c d", "node 2 of the hops in epoch 2 is 'c', but the plan of epoch 2 forwards from 'b' to 'a'"),
+        (2, "0 a d 3 left #1 a d #2 d", "node 2 of the hops in epoch 1 is 'd', but the plan of epoch 1 forwards from 'a' to 'b'"),
+        (2, "0 a d 4 left #1 a b #2 b a d c", f"node 4 of the hops in epoch 2 is 'c': they continue after 'd', {end}"),
+        (2, "0 a c 1 left #1 a b #2 c", "the hops in epoch 2 begin at 'c', but the packet was at 'b'"),
+        (2, "0 a c 2 left #2 a b #1 b c", "epoch 1 comes after epoch 2: epochs must rise"),
+        (2, "0 a c 2 left #1 a b #1 b c", "epoch 1 comes after epoch 1: epochs must rise"),
+        (2, "0 a d 1 down b c #1 a b #2 b", "the plan of epoch 2 forwards from 'b' to 'a', but the fate says otherwise"),
     ]
 
 
@@ -137,7 +137,7 @@ def test_explained_far() -> None:
     ring, steps = put("said/ring", "a b\nb c\nc d\nd a\n"), put("said/steps", "inject a c\ndrain\n")
     for line in (10, 1_500, 70_000):
         rows = "".join(f"{1000 + i} 1 a b 1 delivered a b\n" for i in range(line - 2))
-        for row, kind, sentence in (("7 1 a c 3 delivered a b c", "BadWeight", "'3' is not the weight of its hops"),
+        for row, kind, sentence in (("7 1 a c 3 delivered a b c", "BadWeight", "'3' is not the weight of the hops"),
                                     ("7 9 a c 2 delivered a b c", "UnknownEpoch", "the run has no epoch '9'")):
             trace = put("said/trace", f"trace 1\n{rows}{row}\n")
             expect(f"{kind} on line {line}", run(["check", "--explain", ring, steps, trace]), f"finding {line} {kind}\n".encode(),
@@ -147,7 +147,7 @@ def test_explained_far() -> None:
         expect(f"a script's line {line}", run(["sim", "--explain", ring, script]), b"",
                f"script {line} BadCommand\nroute: {script}:{line}: unknown command 'frob'\n".encode(), 1)
         expect(f"a topology's line {line}", run(["plan", "--explain", mistaken]), b"", (f"topology {line} BadWeight\nroute: {mistaken}:"
-               f"{line}: 'far' is no weight: a whole number from 1 to 65535 is wanted\n").encode(), 1)
+               f"{line}: 'far' is not a weight: use a whole number from 1 to 65535\n").encode(), 1)
     for place, word, near in ((1_024, "lost-one", "last-one"), (1_024, "lost-ane", "last-one"), (1_024, "lost-and", None),
                               (1_025, "lost-one", None)):
         names = [*(f"n{i:05}" for i in range(place - 1)), "last-one"]
@@ -158,14 +158,14 @@ def test_explained_far() -> None:
     for lines, note in ((1_024, True), (1_025, False)):
         net = put("said/arrow", "".join(f"n{i}\n" for i in range(lines - 1)) + "a -> b\n")
         said = run(["plan", "--explain", net])[1]
-        count(f"an arrow on line {lines}", None if (b"'->' is read as a name" in said) == note else brief(said))
+        count(f"an arrow on line {lines}", None if (b"'->' is read as a node name" in said) == note else brief(said))
 
 
 def test_explained_unlearnt() -> None:
     """A packet of a simulation behind an install that was not learnt: in lines that refused nothing, and behind refused ones, from
     two files and from one input; none behind `learn`, in a live run, nor where the script was not played."""
-    ring, said = put("said/ring", "a b\nb c\nc d\nd a\n"), ("no 'learn' stands between this inject and the install above it: sim stamps a packet with "
-        "the greatest epoch that was learnt, live learns each install by itself")
+    ring, said = put("said/ring", "a b\nb c\nc d\nd a\n"), ("no 'learn' comes between this inject and the install above it: sim stamps a packet with "
+        "the greatest epoch that was learnt (live learns each install by itself)")
     old = "inject a c\ninstall shortest a\ninject a c # old\ndrain\n"
     script = put("said/script", old)
     output = run(["sim", ring, script])[0]
@@ -176,6 +176,11 @@ def test_explained_unlearnt() -> None:
     got = run(["sim", "--explain", ring, script])
     expect("an install not learnt behind a refused line", got, output, (f"refused 1 Same\nroute: {script}:1: 'up a b' was refused: it changes "
            f"nothing\nroute: {script}:4: {said}\n").encode(), 0)
+    head, tail = "install shortest a\n", "inject a c\n"
+    whole = filled(head, INPUT_BYTES - len(tail) - 1) + f"\n{tail}".encode()
+    script, line = put("said/script", whole), whole.count(b"\n")
+    got = run(["sim", "--explain", ring, script])
+    expect("an install not learnt above as many bytes as are read", got, run(["sim", ring, script])[0], f"route: {script}:{line}: {said}\n".encode(), 0)
     for name, text, sub, told in (("learnt", "install tree a\nlearn 2\ninject a c\n", "sim", b""), ("no packet", "inject a b\ninstall tree a\n", "sim", b""),
                                   ("live", old, "live", b""), ("not played", old + "lern\n", "sim", b"script 5 BadCommand\n")):
         script = put("said/script", text)
@@ -194,7 +199,7 @@ def test_explained_scripts() -> None:
         explained_as(f"{line}, from -", ["sim", "-"], f"script 1 {kind}", f"standard input:7: {sentence}", data=data)
     script = put("said/script", "act a\n")
     explained_as("a line of sim alone", ["live", ring, script], "script 1 BadCommand",
-                 f"{script}:1: 'act' is a command of 'route sim' alone")
+                 f"{script}:1: 'act' is a command of 'sim' only")
     put("said/script", "lern 1\n")
     explained_as("no command of live", ["live", ring, script], "script 1 BadCommand", f"{script}:1: unknown command 'lern'")
     for text, words_, kind, sentence in refused_steps():
@@ -210,11 +215,11 @@ def test_explained_scripts() -> None:
     got = run(["sim", "--explain", ring, "said/script"])
     expect("many refused steps", got, b"trace 1\n", (many + said + "route: further lines are not explained\n").encode(), 0)
     for text, line, sentence in (
-        ("a\n\xe4\n".encode("latin-1"), "2 BadByte", ":2: byte 0xE4 in '\\xE4': names are of printable ASCII"),
-        ("a\nb c\n", "2 BadRow", ":2: two words; an order has the name of one node on a line"),
+        ("a\n\xe4\n".encode("latin-1"), "2 BadByte", ":2: byte 0xE4 in '\\xE4': names must be printable ASCII"),
+        ("a\nb c\n", "2 BadRow", ":2: two words; a line of a numbering is the name of one node"),
         ("a\na2\n", "2 UnknownNode", f":2: no node 'a2' in {ring} (did you mean 'a'?)"),
-        ("a\nb\n\na\n", "4 Twice", ":4: 'a' stands on line 1 already"),
-        ("a\nb\nd\na1\n", "4 Missing", ": 'c' is not named: each of the 5 nodes is to stand on a line"),
+        ("a\nb\n\na\n", "4 Twice", ":4: 'a' is already on line 1"),
+        ("a\nb\nd\na1\n", "4 Missing", ": 'c' is missing: each of the 5 nodes needs a line"),
     ):
         order = put("said/order", text)
         explained_as(f"an order, {line}", ["plan", "--numbering", order, ring], f"numbering {line}", f"{order}{sentence}")
@@ -234,12 +239,12 @@ def test_explained_beside() -> None:
     """What is found of rows beside their script, and what is said where nothing is found."""
     ring, trace = put("said/ring", "a b\nb c\nc d\nd a\n"), "said/trace"
     for steps, row, kind, sentence in (
-        ("inject a c\n", "0 1 a b 0 left a", "NeverInjected", "no inject in said/steps can be its packet's, beside those of the rows before it"),
+        ("inject a c\n", "0 1 a b 0 left a", "NeverInjected", "no inject in said/steps can be this packet's, given the rows before it"),
         ("inject a c\ninstall tree a\n", "0 2 a c 0 left a", "NotYetInstalled",
-         "its first epoch is beyond those that installs in said/steps above its inject can have made"),
+         "the installs before its inject in said/steps cannot have made its first epoch"),
         ("inject a c\n", "0 1 a c 0 down a b a", "NeverDown", "no line of said/steps takes that link down"),
         ("inject a c\n", "0 1 a c 0 retired a", "NeverRetired", "no line of said/steps retires its epoch"),
-        ("inject a c\n", "0 1 a c 0 full a b a", "NeverFull", "fewer packets than --capacity (16) can have been in that channel"),
+        ("inject a c\n", "0 1 a c 0 full a b a", "NeverFull", "that channel can never have held --capacity (16) packets"),
     ):
         script = put("said/steps", steps)
         put(trace, f"trace 1\n{row}\n")
@@ -248,7 +253,7 @@ def test_explained_beside() -> None:
     script = put("said/steps", "inject a c\n")
     put(trace, "trace 1\n0 1 a c 0 left a\n")
     explained_as("nothing beside the script", ["check", "--whole", ring, script, trace], "",
-                 f"{trace}: injects, epochs and causes of drops are there, as far as script and rows tell; missing rows were not looked at", b"ok 1\n", 0)
+                 f"{trace}: the script allows every row's inject, epoch and cause of drop; missing rows are not checked", b"ok 1\n", 0)
 
 
 def explained_step(name: str, words_: List[str], line: str, sentence: str, output: bytes) -> None:
@@ -269,9 +274,13 @@ def test_explained() -> None:
         trace = put("said/trace", text)
         explained_as(f"finding {kind}", ["check", ring, script, trace], "", f"{trace}:{line}: {sentence}",
                      f"finding {line} {kind}\n".encode())
+    good = "0 1 a c 2 delivered a b c"
+    data = f"a b\nb c\nc d\nd a\n%%\ninject a c\ndrain\n%%\ntrace 1\n1 1 a b 1 delivered a b\n{good}\n{good}\n".encode()
+    explained_as("finding Repeated, from -", ["check", "-"], "", f"standard input:12: '{good}': id '0' is already used on line 11",
+                 b"finding 4 Repeated\n", data=data)
     trace = put("said/trace", "trace 1\n7 1 a c 3 delivered a b c\n")
     expect("a finding as JSON", run(["check", "--json", "--explain", ring, script, trace]), b'{"line":2,"finding":"BadWeight"}\n',
-           f"route: {trace}:2: '7 1 a c 3 delivered a b c': '3' is not the weight of its hops\n".encode(), 1)
+           f"route: {trace}:2: '7 1 a c 3 delivered a b c': '3' is not the weight of the hops\n".encode(), 1)
     put("said/trace", "trace 1\n7 1 a c 2 delivered a b c\n")
     expect("no finding as JSON", run(["check", "--json", "--explain", ring, script, trace]), b'{"ok":1}\n',
            f"route: {OK_SAID.format(trace)}\n".encode(), 0)

@@ -7,7 +7,6 @@ from typing import List, Tuple, Union
 from support.checks import count
 from support.limits import GRAPH_EDGES, GRAPH_NODES, INPUT_BYTES, NET_LINKS, NET_NODES
 from support.marks import built
-from support.networks import ring
 from support.places import work
 from support.route import SOME, as_nobody, brief, call, expect, good_files, put, run
 from support.saying import explained_as
@@ -17,11 +16,11 @@ pytestmark = [built]
 
 def topology_mistakes() -> List[Tuple[str, Union[str, bytes], str, str]]:
     """Texts of topologies, each with its file, its fault and the sentences on it."""
-    form = "an edge list has NODE NODE WEIGHT on a line"
-    hint = "(an adjacency list? try --format adjlist)"
-    braces = "(attributes in braces are not read: write_weighted_edgelist of NetworkX writes none)"
-    none = "is no weight: a whole number from 1 to 65535 is wanted"
-    strange = "names are of printable ASCII"
+    form = "a line of an edge list is NODE NODE WEIGHT"
+    hint = "(is it an adjacency list? try --format adjlist)"
+    braces = "(attributes in braces are not supported: NetworkX's write_weighted_edgelist writes none)"
+    none = "is not a weight: use a whole number from 1 to 65535"
+    strange = "names must be printable ASCII"
     return [
         ("t.edgelist", "a b 1\nb c 2\nHouston Dallas Lincoln\n", "3 BadWeight", f":3: 'Lincoln' {none}"),
         ("t.edgelist", "a b -3\n", "1 BadWeight", f":1: '-3' {none}"),
@@ -31,12 +30,12 @@ def topology_mistakes() -> List[Tuple[str, Union[str, bytes], str, str]]:
         ("t.wel", "# by hand\na b c d\n", "2 BadRow", f":2: 4 words; {form} {hint}"),
         ("t.edgelist", "a b {'weight': 3}\n", "1 BadRow", f":1: 4 words; {form} {braces}"),
         ("t.adjlist", "a b\nb Z\u00fcrich\n", "2 BadByte", f":2: byte 0xC3 in 'Z\\xC3\\xBCrich': {strange}"),
-        ("t.adjlist", "\ufeffa b\n", "1 BadByte", ":1: a byte order mark stands before the text: save it without one"),
+        ("t.adjlist", "\ufeffa b\n", "1 BadByte", ":1: the text begins with a byte order mark: save it without one"),
         ("t.adjlist", "a b\n".encode("utf-16"), "1 BadByte", ":1: this looks like UTF-16: save the text as ASCII"),
         ("t.adjlist", "a b\n".encode("utf-16-le"), "1 BadByte", ":1: this looks like UTF-16: save the text as ASCII"),
-        ("t.adjlist", "a " + "b" * 65 + "\n", "1 BadName", ":1: a name of 65 bytes; at most 64 are taken"),
+        ("t.adjlist", "a " + "b" * 65 + "\n", "1 BadName", ":1: a name has 65 bytes; the limit is 64"),
         ("t.adjlist", "".join(f"n{i}\n" for i in range(GRAPH_NODES + 1)), f"{GRAPH_NODES + 1} TooManyNodes",
-         f":{GRAPH_NODES + 1}: a topology has at most {GRAPH_NODES} nodes, and here is one more"),
+         f":{GRAPH_NODES + 1}: too many nodes: a topology has at most {GRAPH_NODES}"),
         ("t.edgelist", "a b " + "9" * 65 + "\n", "1 BadWeight", f":1: '{'9' * 64}'.. {none}"),
     ]
 
@@ -50,17 +49,17 @@ def test_explained_inputs() -> None:
         explained_as(f"{which} missing", call(sub, files), f"{which} unreadable", "said/none: no such file")
     explained_as("a numbering missing", ["plan", "--numbering", "said/none", "good/topology"], "numbering unreadable",
                  "said/none: no such file")
-    explained_as("a folder", ["plan", "said/folder"], "topology unreadable", "said/folder: it is a directory")
+    explained_as("a folder", ["plan", "said/folder"], "topology unreadable", "said/folder: is a directory")
     memory = "/proc/self/mem"  # whose first byte Linux refuses to read
     if os.path.exists(memory):
-        explained_as("a file that is refused as it is read", ["plan", memory], "topology unreadable", f"{memory}: it could not be read")
+        explained_as("a file that is refused as it is read", ["plan", memory], "topology unreadable", f"{memory}: could not be read")
     locked = put("said/locked", "a b\n")
     os.chmod(work(locked), 0)
     more = as_nobody()
     if more is not None:
-        explained_as("a locked file", ["plan", locked], "topology unreadable", f"{locked}: no leave to read it", **more)
+        explained_as("a locked file", ["plan", locked], "topology unreadable", f"{locked}: permission denied", **more)
     large = put("said/large", b"#" * (INPUT_BYTES + 1))
-    explained_as("a large file", ["plan", large], "topology too large", f"{large}: more than {INPUT_BYTES} bytes, the most of an input")
+    explained_as("a large file", ["plan", large], "topology too large", f"{large}: larger than {INPUT_BYTES} bytes, the limit of an input")
     ring = put("said/ring", "a b\nb c\nc d\nd a\n")
     for option, words_ in (("--root", ["plan"]), ("--from", ["walk", "--to", "a"]), ("--to", ["walk", "--from", "a"])):
         explained_as(f"{option} unknown", [*words_, option, "e1", ring], "opening NoNode",
@@ -73,27 +72,27 @@ def test_explained_inputs() -> None:
                  f"--root: no node 'Huston' in {near} (did you mean 'Houston'?)")
     explained_as("no node to be drawn", ["draw", "--node", "Huston", near], "opening NoNode",
                  f"--node: no node 'Huston' in {near} (did you mean 'Houston'?)")
-    for text, why in (("", "it is empty"), ("# none\n\n", "each line is blank or a comment")):
+    for text, why in (("", "the text is empty"), ("# none\n\n", "each line is blank or a comment")):
         empty = put("said/empty", text)
         explained_as(f"a topology with {why}", ["plan", empty], "opening Empty", f"{empty}: no nodes: {why}")
     short = put("said/short.edgelist", "a\n")
-    explained_as("an edge list of one word", ["plan", short], "opening Empty", f"{short}: no nodes: no line names two")
+    explained_as("an edge list of one word", ["plan", short], "opening Empty", f"{short}: no nodes: no line names two nodes")
     apart = put("said/apart", "a b\nc d e\nf\n")
-    explained_as("parts", ["plan", apart], "opening Disconnected", f"{apart}: 'a' has no path to 'c': 3 parts, the largest has 3 nodes")
+    explained_as("parts", ["plan", apart], "opening Disconnected", f"{apart}: 'a' has no path to 'c': the network has 3 parts, the largest of 3 nodes")
     explained_as("parts from a root", ["plan", "--root", "f", apart], "opening Disconnected",
-                 f"{apart}: 'f' has no path to 'a': 3 parts, the largest has 3 nodes")
+                 f"{apart}: 'f' has no path to 'a': the network has 3 parts, the largest of 3 nodes")
     drain = put("said/drain", "drain\n")
     for sub in ("sim", "live"):
         many = put("said/many", "".join(f"n{i} n{i + 1}\n" for i in range(NET_NODES)))
         explained_as(f"{sub} of many nodes", [sub, many, drain], "opening TooLarge",
-                     f"{many}: {NET_NODES + 1} nodes; where packets travel there are at most {NET_NODES}")
+                     f"{many}: {NET_NODES + 1} nodes; networks where packets travel have at most {NET_NODES}")
         links = [f"n{u} n{v}\n" for u in range(140) for v in range(u)][: NET_LINKS + 1]
         dense = put("said/dense", "".join(links))
         explained_as(f"{sub} of many links", [sub, dense, drain], "opening TooLarge",
-                     f"{dense}: {NET_LINKS + 1} links; where packets travel there are at most {NET_LINKS}")
+                     f"{dense}: {NET_LINKS + 1} links; networks where packets travel have at most {NET_LINKS}")
     with open("/dev/full", "wb") as full:
         expect("an output that is full, explained", run(["plan", "--explain", ring], stdout=full), b"",
-               b"output unwritable\nroute: standard output: it could not be written\n", 1)
+               b"output unwritable\nroute: standard output: could not be written\n", 1)
 
 
 def test_explained_notes() -> None:
@@ -115,23 +114,23 @@ def test_explained_notes() -> None:
         ("z.dot", "strict graph { a -- b }\n", "DOT", ""),
         ("x.xml", "<?xml version='1.0'?>\n<networkStructure>\n</networkStructure>\n", "SNDlib", ""),
         ("x.csv", "source,target,weight\na,b,3\nb,c,4\n", "CSV", " --from csv"),
-        ("grid.adjlist", "(0, 0) (0, 1) (1, 0)\n(0, 1) (1, 1)\n", "a list of tuples, which blanks cut", " --from adjlist"),
+        ("grid.adjlist", "(0, 0) (0, 1) (1, 0)\n(0, 1) (1, 1)\n", "a list of tuples that are split at spaces", " --from adjlist"),
         ("y.adjlist", "a b {'weight':3}\nb c {}\n", "an edge list with attributes in braces", " --from edgelist"),
         ("m.adjlist", "a 2\nb {}\nc {}\nb 0\nc 0\n", "a multiline adjacency list", " --from multiline"),
     ):
         file = put(f"said/{name}", text)
         output, faults, status = run(["plan", file])
-        note = f"this looks like {form}; {convert} {file}{word} makes an edge list of it"
+        note = f"this looks like {form}; '{convert} {file}{word}' makes an edge list of it"
         said = f"route: {file}: {note}{read_of(text, faults)}\n".encode()
         expect(f"a note on {name}", run(["plan", "--explain", file]), output, SOME, status)
         told = run(["plan", "--explain", file])[1]
         count(f"the note on {name}", None if told.startswith(faults) and told.endswith(said) else brief(told))
     for name, text, sentence in (
         ("x.cch", "1 @CA + (2) -> <2> =r0\n2 @CA -> <1> =r1\n",
-         "'->' is read as a name (a map of routers, as Rocketfuel's .cch? it is not read)"),
+         "'->' is read as a node name (Rocketfuel .cch maps are not supported)"),
         ("q.adjlist", '"New York" Boston\n',
-         "quotes are read as part of a name, and a blank ends it: 'New York' is two names, New_York one"),
-        ("x.adjlist", "a b 1\nb c 2\n", "each line has three words, the last a number (an edge list? try --format edgelist)"),
+         "quotes do not join words: 'New York' is read as two names, New_York as one"),
+        ("x.adjlist", "a b 1\nb c 2\n", "each line has three words and ends in a number (is it an edge list? try --format edgelist)"),
     ):
         file = put(f"said/{name}", text)
         output, faults, status = run(["plan", file])
@@ -155,4 +154,4 @@ def test_explained_topologies() -> None:
     edges = [f"n{u} n{v} 1\n" for u in range(400) for v in range(u)][: GRAPH_EDGES + 1]
     file = put("said/edges.edgelist", "".join(edges))
     explained_as("too many edges", ["plan", file], f"topology {GRAPH_EDGES + 1} TooManyEdges",
-                 f"{file}:{GRAPH_EDGES + 1}: a topology has at most {GRAPH_EDGES} edges, and here is one more")
+                 f"{file}:{GRAPH_EDGES + 1}: too many edges: a topology has at most {GRAPH_EDGES}")

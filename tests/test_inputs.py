@@ -7,7 +7,7 @@ import os
 import subprocess
 from typing import Any, Optional, Tuple
 
-from support.checks import count, skip, taken
+from support.checks import count, skip
 from support.limits import INPUT_BYTES, PART_BYTES, SECONDS
 from support.marks import built
 from support.networks import filled

@@ -42,8 +42,12 @@ def test_landmarks_told() -> None:
 
 def test_landmarks_words() -> None:
     """What refuses the words, by name."""
-    other = "'--landmarks' and '--stretch' take '--kind landmark' beside them"
-    order = "'--kind landmark' takes no '--numbering': its landmarks number the nodes"
+    other = "'--landmarks' and '--stretch' require '--kind landmark'"
+    order = "'--kind landmark' cannot be used with '--numbering': its landmarks number the nodes"
+    for sub in ("plan", "stats", "prefixes", "ranges", "draw", "walk"):
+        ends = ["--from", "a", "--to", "b"] if sub == "walk" else []
+        said = f"error: {other}\n\nFor more information, try '--help'.\n".encode()
+        expect(f"refused: {sub}", run([sub, *ends, "--kind", "compact", "--stretch", "200", "-"], TRIANGLE), b"", said, 2)
     for words, told in ((["--landmarks", "2"], other), (["--stretch", "200"], other), (["--kind", "tree", "--stretch", "300"], other),
                         (["--kind", "landmark", "--numbering", "tour"], order), (["--kind", "landmark", "--numbering", "file"], order)):
         said = f"error: {told}\n\nFor more information, try '--help'.\n".encode()
@@ -63,3 +67,9 @@ def test_landmarks_installed() -> None:
         trace = put("landmarks/trace", wanted.decode())
         expect(f"its check, {words}", run(["check", "--whole", *words, net, script, trace]), b"ok 2\n", b"", 0)
     expect("a kind that is none", run(["sim", "-"], PATH + b"%%\ninstall landmarks a\n"), b"", b"script 1 BadCommand\n", 1)
+    parted = PATH + b"%%\ndown c d\ninstall landmark a\nup c d\ninstall landmark a\ninject a g\ndrain\n"
+    wanted = b"trace 1\n0 1 a g 6 delivered a b c d e f g\n"
+    for sub in ("sim", "live"):
+        got = run([sub, "-"], parted)
+        told = wanted if sub == "sim" else wanted.replace(b"0 1 a", b"0 2 a")
+        expect(f"an install over links that do not connect, {sub}", got, told, b"refused 2 Disconnected\n", 0)

@@ -20,7 +20,9 @@ from typing import Any, Dict, List, Optional, Tuple
 
 from support import checks
 from support.checks import say
+from support.limits import CAPACITY, NET_NODES, PACKETS
 from support.marks import alone, slow, within
+from support.networks import crossing
 from support.places import TOP, built_program, work
 
 FOLDER = os.path.abspath(os.environ.get("LIBRARY") or os.path.join(TOP, "site/out"))
@@ -64,6 +66,10 @@ def ends_well(what: str, it: "Done[str]") -> bool:
 def made(source: str, out: str, *further: str) -> bool:
     """Makes a program of a file in C and the library."""
     return ran("cc", "-O1", "-Wall", "-Wextra", "-Werror", *further, "-I", "library", "-o", out, source, ARCHIVE).returncode == 0
+
+
+MOST_WORDS = ["sim", "--format", "adjlist", "--kind", "shortest", "--root", "a", "--numbering", "depth-first", "--capacity", str(CAPACITY),
+              "--packets", str(PACKETS), "--restamps", "0", "--landmarks", "1", "--stretch", "300", "--explain"]  # of a call, but its files
 
 
 class Callee:
@@ -144,6 +150,11 @@ def test_python() -> None:
     for case in cases():
         answer = library.answer(case["words"], [text.encode() for text in case["inputs"]])
         count(f"{case['name']}, in Python: {answer}", answer == (case["status"], case["stdout"].encode(), case["stderr"].encode()))
+    topology, script, trace = crossing(NET_NODES, PACKETS, CAPACITY)
+    answer = library.answer([*MOST_WORDS, "topology", "script"], [topology.encode(), script.encode()])
+    count(f"the longest trace, by the most words: {answer[0]}, {len(answer[1])} bytes, {answer[2]}", answer == (0, trace.encode(), b""))
+    answer = library.answer(["sim"] + 39 * ["--frob"], [b"a b\n", b""])
+    count(f"forty words: {answer}", answer[:2] == (2, b"") and answer[2].startswith(b"error: "))
     if not os.access(ROUTE, os.X_OK):
         skip("the program is not built, and the tests of the Python package were not run with the library")
         return
@@ -235,7 +246,8 @@ def try_installed(folder: str, root: str) -> None:
         words = ["-I", f"{usr}/include", "-o", f"{folder}/packaged", f"{usr}/share/doc/bentzolu/example.c", "-L", library, "-lbentzolu"]
         if ends_well("the example by the package", ran("cc", *words)):
             try_example(ran(f"{folder}/packaged", env={"LD_LIBRARY_PATH": library}))
-    for page in ("man1/bentzolu.1", "man3/bentzolu.3", "man3/bentzolu_run.3"):
+    of_plane = ["man1/bentzolu-xdp.1"] if os.path.exists(f"{usr}/bin/bentzolu-xdp") else []
+    for page in ("man1/bentzolu.1", "man3/bentzolu.3", "man3/bentzolu_run.3", *of_plane):
         count(page, ran("zcat", f"{usr}/share/man/{page}.gz").stdout.startswith((".", "'")))
     with open(f"{usr}/share/doc/bentzolu/lab.html", "rb") as packed, open("docs/lab.html", "rb") as own:
         count("the page is in the package", packed.read() == own.read())

@@ -259,7 +259,7 @@ def has_figures(line: str) -> bool:
 
 
 def test_blocks() -> None:
-    """Each specs/Lib.antt lists its pages under its comments, those of BELIEVE.md under what contracts promise."""
+    """Each specs/Lib.antt lists its pages under its comments, those that contracts of BELIEVE.md name under what contracts promise."""
     believed = make.believed_pages()
     for path in [path for path in sources().paths if re.fullmatch(r"crates/\w+/specs/Lib\.antt", path)]:
         crate = path.split("/")[1]
@@ -357,6 +357,23 @@ def unmade(crate: str, edit: str) -> Optional[str]:
                 return f"{old!r} stands {found} times in {path}"
             texts[path], pairs = texts[path].replace(old, rest[1:]), pairs + 1
     return None if pairs else "it changes nothing"
+
+
+SAID = [  # numbers of which speed or memory hangs and no clause: the crate, the constant, its number, and how DECISIONS says it
+    ("ir_plan", "MOST_MARK_BYTES", 64 << 20, "up to 64 MiB** (`MOST_MARK_BYTES`)"),
+    ("ir_worker", "LOOKS", 2, "gives way twice before it sleeps (`LOOKS`)"),
+    ("ir_lanes", "MOST_SWEEPS", 64, "A batch has 64 sweeps or the work of 20 passes"),
+    ("ir_lanes", "MOST_PASSES", 20, "A batch has 64 sweeps or the work of 20 passes"),
+]
+
+
+def test_numbers_of_decisions() -> None:
+    """Numbers of which speed or memory hangs and no clause are those that DECISIONS gives."""
+    decisions = " ".join(text_of("docs/DECISIONS.md").split())
+    for crate, name, number, words in SAID:
+        place = make.specs.declared_in(crate, name)
+        value = make.value_of(crate, name).replace("_", "") if place else None
+        count(f"{name} of {crate}", None if value == str(number) and words in decisions else f"it is {value}, and DECISIONS says {words!r}")
 
 
 def test_version() -> None:

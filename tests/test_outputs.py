@@ -14,7 +14,7 @@ import subprocess
 import time
 from typing import Dict, List, Optional, Tuple
 
-from support.checks import count, taken
+from support.checks import count
 from support.limits import CAPACITY, PACKETS, PART_BYTES, SECONDS
 from support.marks import built
 from support.networks import ring
@@ -193,7 +193,7 @@ def test_kept_not_at_all() -> None:
         for place in ("kept/none/file", "kept", "kept/", "kept/file/", "kept/file/none", "", "kept/" + "x" * 300):
             refused(f"{words_} to {place[:20]!r}", run(to_file(words_, place)), "output unwritable")
         stands(f"what {words_} left that can't be written", ("file", b"before\n"))
-        said = b"output unwritable\nroute: kept/none/file: it could not be written\n"
+        said = b"output unwritable\nroute: kept/none/file: could not be written\n"
         expect(f"{words_} to no folder, explained", run([*to_file(words_, "kept/none/file"), "--explain"]), b"", said, 1)
 
 

@@ -9,9 +9,9 @@ from typing import Iterator, List, Tuple
 
 from support.book import ByTheBook, ranges_of, starts_in
 from support.checks import count
-from support.limits import GREAT_SECONDS
-from support.marks import built, root
-from support.networks import circle, ring
+from support.limits import GRAPH_NODES, GREAT_SECONDS
+from support.marks import built
+from support.networks import circle, lone
 from support.places import TOP, program, work
 from support.route import (
     NAMES, SOME, TEXTS, alike, brief, call, expect, faults_of, good_files, output_of, put, refused,
@@ -134,6 +134,59 @@ def test_tours() -> None:
     for sub in ("sim", "live", "check"):
         files = [net, "toured/live1", "toured/trace1"][: TEXTS[sub]]
         refused(f"{sub} by a tour from no node", run(call(sub, files, "--numbering", "tour", "--root", "z")), "opening NoNode")
+
+
+def lines_by_python(plan: str, node: str, near: List[str], epoch: int) -> bytes:
+    """The lines of a node's table, as the Python package makes them of the text of `plan`."""
+    if os.path.join(TOP, "python") not in sys.path:
+        sys.path.append(os.path.join(TOP, "python"))
+    from bentzolu import lines, texts
+    read = texts.read_plan(plan)
+    return lines.as_text(lines.lines(lines.row_of(read.nodes[node], len(read.nodes), near), epoch)).encode()
+
+
+def neighbours(text: str, node: str) -> List[str]:
+    """The neighbours of a node, in the order in which the lines of its links have them."""
+    rows = [row.split() for row in text.splitlines()]
+    found = [v if u == node else u for u, v in (row[:2] for row in rows if len(row) > 1) if node in (u, v) and u != v]
+    return list(dict.fromkeys(found))
+
+
+def test_lines() -> None:
+    """The lines of a node's table are those that the package makes of `plan`, at each depth; what is refused is said so."""
+    luck = random.Random(2)
+    star = "".join(f"hub n{u}\n" for u in range(600))
+    comb = "".join(f"hub n{u}\nn{u} m{u}\n" for u in range(250))
+    nets = [("alone.adjlist", "a\n", ["a"]), ("star.adjlist", star, ["hub", "n7"]), ("comb.adjlist", comb, ["hub", "m3"])]
+    for turn in range(12):
+        nodes = luck.randint(2, 60)
+        edges = [(luck.randrange(v), v) for v in range(1, nodes)] + [(luck.randrange(nodes), luck.randrange(nodes)) for _ in range(luck.randint(0, 3 * nodes))]
+        text = "".join(f"n{u} n{v} {luck.randint(1, 4)}\n" for u, v in edges)
+        nets.append((f"network{turn}.edgelist", text, [f"n{luck.randrange(nodes)}" for _ in range(2)]))
+    depths = set()
+    for name, text, chosen in nets:
+        net = put(f"lined/{name}", text)
+        for kind, node in ((kind, node) for kind in ("tree", "shortest", "compact") for node in chosen):
+            epoch = luck.choice((1, 2, 255, 65535))
+            plan = run(["plan", "--kind", kind, net])[0].decode()
+            got = run(["xdp", "table", str(epoch), "--node", node, "--kind", kind, net])
+            expect(f"the lines of {name}, {kind}, {node}", got, lines_by_python(plan, node, neighbours(text, node), epoch), b"", 0)
+            depths.update(got[0].split()[3:4])
+    count("lines of each depth", None if {int(it, 16) for it in depths} == {0, 1, 2, 255} else f"{depths}")
+    good = put("lined/good", "a b\nb c\n")
+    expect("lines into a file", run(["xdp", "table", "1", "--node", "a", "-o", "lined/out", good]), b"", b"", 0)
+    with open(work("lined/out"), "rb") as file:
+        expect("lines of standard input", run(["xdp", "table", "1", "--node", "a", "-"], b"a b\nb c\n"), file.read(), b"", 0)
+    refused("lines of no node", run(["xdp", "table", "1", "--node", "z", good]), "opening NoNode")
+    refused("lines from no root", run(["xdp", "table", "1", "--node", "a", "--root", "z", good]), "opening NoNode")
+    refused("lines of parts", run(["xdp", "table", "1", "--node", "a", put("lined/apart", "a b\nc d\n")]), "opening Disconnected")
+    refused("lines of too many labels", run(["xdp", "table", "1", "--node", "n0", put("lined/more", lone(GRAPH_NODES + 1))]),
+            f"topology {GRAPH_NODES + 1} TooManyNodes")
+    for words_ in (["table", "0"], ["table", "65536"], ["table", "-1"], ["table", "one"], ["tables", "1"], ["1", "table"], ["table"], []):
+        expect(f"not understood: xdp {words_}", run(["xdp", *words_, "--node", "a", good]), b"", SOME, 2)
+    for words_ in (["table", "1", good], ["table", "1", "--node", "a", "--json", good], ["table", "1", "--node", "a", "--binary", good],
+                   ["table", "1", "--node", "a", "--from", "a", good], ["table", "1", "--node", "a", good, good]):
+        expect(f"not understood: xdp {words_}", run(["xdp", *words_]), b"", SOME, 2)
 
 
 def test_ranges() -> None:

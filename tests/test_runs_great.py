@@ -14,9 +14,9 @@ from support.checks import count
 from support.limits import CHANGES, EPOCHS, GRAPH_EDGES, PACKETS, SECONDS
 from support.living import NET, chain, expect_all, marked_before
 from support.marks import alone, built, slow, within
-from support.networks import Links, grid
+from support.networks import Links
 from support.places import program, work
-from support.route import Got, brief, put, refused, run
+from support.route import Got, brief, put, run
 
 pytestmark = [built]
 
@@ -94,7 +94,7 @@ def drained(luck: random.Random, nodes: List[str], links: Links, kinds: List[str
                 both = [f"install {luck.choice(kinds)} {luck.choice(nodes)}"]
             sim += both
             live += both
-            if what == "install" and epoch < EPOCHS and is_connected(nodes, [l for l in links if l not in down]):
+            if what == "install" and epoch < EPOCHS and is_connected(nodes, [link for link in links if link not in down]):
                 epoch += 1
                 sim.append(f"learn {epoch}")
                 live.append(f"# learn {epoch}")
@@ -267,7 +267,7 @@ def test_no_thread() -> None:
     got = run(["live", *files], program=own, preexec_fn=few_threads())
     expect_all("a live run without room for its threads", got, (b"", b"no thread\n", 3))
     got = run(["live", "--explain", *files], program=own, preexec_fn=few_threads())
-    expect_all("the same, explained", got, (b"", b"no thread\nroute: no further thread was started\n", 3))
+    expect_all("the same, explained", got, (b"", b"no thread\nroute: a thread could not be started\n", 3))
 
 
 @alone

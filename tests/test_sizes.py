@@ -11,8 +11,7 @@ from support.checks import count
 from support.limits import (
     GRAPH_EDGES, GRAPH_NODES, GREAT_SECONDS, INPUT_BYTES, NET_LINKS, NET_NODES, THREADS, TOUR_NODES,
 )
-from support.living import chain
-from support.marks import alone, built, root, slow, within
+from support.marks import alone, built, slow, within
 from support.networks import all_pairs, band, circle, filled, lone, row_of, with_chords
 from support.route import Got, NAMES, SOME, TEXTS, alike, call, differs, expect, good_files, put, refused, run
 
@@ -47,6 +46,9 @@ def test_sizes() -> None:
                 refused(f"{sub} of too many {what} for packets", got, "opening TooLarge")
         else:
             expect(f"{sub} of as many edges as fit", got, SOME, b"", 0)
+            if sub in ("plan", "ranges"):
+                edges = ["--format", "edgelist", "--kind", "shortest"]
+                expect(f"{sub} of as many edges as fit, shortest", run(call(sub, ["limit/edges"], *edges)), SOME, b"", 0)
             for what in ("nodes", "links"):
                 got = run(call(sub, [f"limit/more-net-{what}", *rest]))
                 expect(f"{sub} of too many {what} for packets", got, SOME, b"", 0)

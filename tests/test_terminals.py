@@ -66,7 +66,8 @@ def test_progress_late() -> None:
     """The rows of each kind are told, and those of each plan that a tour takes; of a run none."""
     data = band(512).encode()
     for words_, plans in ((["plan", "--kind", "tree"], 1), (["plan", "--kind", "shortest"], 1), (["stats", "--kind", "compact"], 1),
-                          (["draw", "--numbering", "tour"], 2), (["prefixes", "--kind", "compact", "--numbering", "tour"], 3)):
+                          (["draw", "--numbering", "tour"], 2), (["prefixes", "--kind", "compact", "--numbering", "tour"], 3),
+                          (["ranges", "--kind", "tree"], 1), (["compare"], 8)):
         words_ = [*words_, "--threads", "1", "-"]
         output, faults, status, _ = after_patience(words_, data)
         alike(f"{words_} that is late", (output, b"", status), run(words_, data))
@@ -77,15 +78,15 @@ def test_progress_late() -> None:
 
 
 def test_progress_counted() -> None:
-    """Once all rows of 2,048 nodes are made, a line says that walks are counted, up to the output; of fewer nodes none does, nor
-    where no walks are counted."""
+    """Once all rows of 2,048 nodes are made, a line says that paths are measured, up to the output; of fewer nodes none does, nor
+    where no paths are measured."""
     for nodes, words_, is_told in ((2_048, ["stats", "--kind", "tree"], True), (2_048, ["stats", "--threads", "1"], True),
                                    (2_047, ["stats", "--kind", "tree"], False), (2_048, ["plan", "--kind", "tree"], False)):
         words_ = [*words_, put("progress/star", " ".join(["hub", *(f"n{i}" for i in range(nodes - 1))]) + "\n")]
         output, faults, status = run(words_)
         shown = on_terminal(words_)
         expect(f"{words_[0]} of {nodes:,} nodes, on a terminal", shown, output, SOME if is_told else ANY, 0)
-        rows, line = rb"(?:\rroute: \d+ of %d rows|\r\x1b\[K)*" % nodes, rb"\rroute: %d rows are made; their walks are counted" % nodes
+        rows, line = rb"(?:\rroute: \d+ of %d rows|\r\x1b\[K)*" % nodes, rb"\rroute: %d rows are made; their paths are measured" % nodes
         told = rows + (rb"(?:" + line + rb"\r\x1b\[K" + rows + rb")+" if is_told else b"")
         count(f"what {words_[0]} of {nodes:,} nodes tells", None if re.fullmatch(told, shown[1]) else brief(shown[1]))
 
@@ -98,7 +99,7 @@ def test_progress_memory() -> None:
     data = "".join(f"{edge}\n" for edge in edges).encode()
     words_ = ["plan", "--format", "edgelist", "--threads", "1", "--order", "-"]
     most = after_patience(words_, data)[3]
-    told = rb"(?:\rroute: \d+ of %d rows)+(?:\r\x1b\[K)+out of memory\n(?:\r\x1b\[K)*route: memory was refused\n" % nodes
+    told = rb"(?:\rroute: \d+ of %d rows)+(?:\r\x1b\[K)+out of memory\n(?:\r\x1b\[K)*route: the system refused to allocate memory\n" % nodes
     for share in (0.6, 0.8, 0.9):
         output, faults, status, _ = after_patience(words_, data, int(most * share))
         wrong = None if (status, output) == (3, b"") and re.fullmatch(told, faults) else f"status {status}, faults {brief(faults)}"

@@ -16,20 +16,20 @@ def test_words() -> None:
     good_files()
     for line in wrong_words():
         expect(f"not understood: {line}", run(line, b"a b\n"), b"", SOME, 2)
-    for sub, texts in (("sim", "a topology and of a script"), ("live", "a topology and of a script"),
-                       ("check", "a topology, of a script and of a trace")):
+    for sub, texts in (("sim", "a topology file and a script file"), ("live", "a topology file and a script file"),
+                       ("check", "a topology file, a script file and a trace file")):
         files = "<TOPOLOGY> <SCRIPT> <TRACE>" if sub == "check" else "<TOPOLOGY> <SCRIPT>"
-        told = (f"error: 'route {sub}' takes the files of {texts}, or '-' alone\n\nUsage: route {sub} [OPTIONS] {files}\n"
+        told = (f"error: 'route {sub}' takes {texts}, or '-' alone\n\nUsage: route {sub} [OPTIONS] {files}\n"
                 f"       route {sub} [OPTIONS] -\n\nFor more information, try '--help'.\n").encode()
         for given in (["good/topology"], ["-", "good/script"], ["good/topology", "-"]):
             expect(f"what {sub} {given} is told", run([sub, *given]), b"", told, 2)
-    expect("words that are no text", run([b"\xff"]), b"", b"route: the words are no text\n", 2)
+    expect("words that are no text", run([b"\xff"]), b"", b"route: an argument is not valid UTF-8\n", 2)
     for line in (["--help"], ["-h"], ["help"], ["--version"], *([sub, "--help"] for sub in TEXTS),
                  *([sub, "-h"] for sub in TEXTS), *(["help", sub] for sub in TEXTS)):
         expect(f"understood: {line}", run(line), SOME, b"", 0)
     expect("the version", run(["--version"]), f"route {VERSION}\n".encode(), b"", 0)
-    for sub, part in (("plan", b"-o, --output <FILE>"), ("sim", b"--capacity"), ("sim", b"inject"), ("live", b"inject"), ("prefixes", b"--disjoint"), ("ranges", b"FROM-TO"),
-                      ("plan", b"--order"), ("stats", b"--with"), ("check", b"nor whether rows are missing"), ("check", b"--whole"),
+    for sub, part in (("plan", b"-o, --output <FILE>"), ("sim", b"--capacity"), ("sim", b"inject"), ("live", b"inject"), ("sim", b"it stamps packets with the greatest epoch that it learnt"), ("prefixes", b"--disjoint"), ("ranges", b"FROM-TO"),
+                      ("plan", b"--order"), ("stats", b"--with"), ("check", b"whether rows are missing"), ("check", b"--whole"),
                       ("check", b"NotYetInstalled")):
         help_text = run([sub, "--help"])[0]
         count(f"what {sub} --help tells of", None if part in help_text else f"there is no {part}")
@@ -46,6 +46,28 @@ def test_words() -> None:
     put("good/untrue", "trace 1\n0 1 a c 2 delivered a b\n")
     found = run(call("check", ["good/topology", "good/script", "good/untrue"]))
     expect("a finding: status 1", found, b"finding 2 NotAtDestination\n", b"", 1)
+
+
+RULES = [  # words that break a rule on others, and what the program says of each
+    (["draw", "--node", "a", "--from", "a", "--to", "b"], "'--node' cannot be used with '--from' or '--to'"),
+    (["draw", "--node", "a", "--to", "b"], "'--node' cannot be used with '--from' or '--to'"),
+    (["draw", "--from", "a"], "'--from' requires '--to'"),
+    (["draw", "--to", "a"], "'--to' requires '--from'"),
+    (["draw", "--svg"], "'--svg' requires '--node'"),
+    (["plan", "--kind", "tree", "--numbering", "tour"], "'--kind tree' works only with '--numbering depth-first'"),
+    (["sim", "--kind", "landmark", "--numbering", "tour"], "'--kind landmark' cannot be used with '--numbering': its landmarks number the nodes"),
+    (["plan", "--numbering", "-"], "'--numbering' takes 'depth-first', 'tour' or a file name, not '-'"),
+    (["plan", "--root", "a", "--numbering", "order"], "'--root' cannot be used with a '--numbering' file, whose first node is the root"),
+    (["plan", "--stretch", "200"], "'--landmarks' and '--stretch' require '--kind landmark'"),
+    (["stats", "--with", "best"], "'--with' takes 'tree', 'shortest', 'compact' or 'landmark', optionally with a root after a comma"),
+]
+
+
+def test_words_of_rules() -> None:
+    """What the program says of words that are understood one by one, and do not go together."""
+    for line, told in RULES:
+        text = f"error: {told}\n\nFor more information, try '--help'.\n".encode()
+        expect(f"what {line} is told", run([*line, "-"], b"a b\n"), b"", text, 2)
 
 
 def short_options(sub: str, files: List[str]) -> None:

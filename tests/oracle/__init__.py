@@ -12,7 +12,7 @@ import random
 from support.checks import count, say
 
 # The oracles, each with its share of the networks that the gate tries: those that ask the program most have fewer.
-SHARES = {"rows": 100, "compact": 100, "landmark": 60, "blocks": 50, "tables": 80, "ranges": 100, "figures": 50, "as_json": 40, "runs": 150, "beside": 30}
+SHARES = {"rows": 100, "compact": 100, "landmark": 60, "blocks": 50, "ways": 2, "tables": 80, "ranges": 100, "figures": 50, "as_json": 40, "runs": 150, "beside": 30}
 
 
 def compare(name: str, first: int, networks: int, folder: str) -> None:

@@ -157,7 +157,7 @@ def whole_fault(seed: int, bends: int, sub: str = "sim") -> Tuple[Optional[str],
     topology, nodes, links = small_net(luck)
     order = list(dict.fromkeys(topology.split()))
     lines = steps_over(luck, nodes, links, sub == "live")
-    kind = luck.choice(["tree", "shortest", "compact"])
+    kind = luck.choice(["tree", "shortest", "compact", "landmark"])
     capacity, packets, restamps = luck.choice([1, 1, 2, 3, 16]), luck.choice([PACKETS, PACKETS, 5]), luck.choice([0, 0, 2])
     words_ = ["--kind", kind, "--capacity", str(capacity), "--packets", str(packets)]
     more = ["--restamps", str(restamps)] if restamps else []

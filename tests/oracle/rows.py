@@ -6,7 +6,6 @@ those of the distances and of the walks.
 """
 import heapq
 import os
-import random
 import subprocess
 
 from support.places import built_program

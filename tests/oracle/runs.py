@@ -2,8 +2,11 @@
 
 Then a packet ends as the network stands: it goes by the plan of the epoch that it was stamped with, up to its destination
 or to a link that is down, and no step where that epoch is retired. `check` is to say `ok` of the trace, also with `--whole`.
+Plans of kind landmark go round as the words of the run say, by the landmarks of the links that are up then.
 """
-from oracle.rows import run
+from oracle.blocks import order_of
+from oracle.landmark import Bound, fewest_for, most_linked, rows_of
+from oracle.rows import distances, run
 from oracle.tables import drawn, plan_of, read_topology
 
 
@@ -26,15 +29,32 @@ def is_connected(nodes, links):
     return len(seen) == len(nodes)
 
 
+def landmark_plan(ports, root, count, stretch):
+    """The same as `plan_of` for kind landmark, of each node's neighbours and weights by its ports."""
+    landmarks, far = most_linked(ports, root, count), {u: distances(ports, u) for u in ports}
+    order = order_of(ports, landmarks)
+    rows, towards = rows_of(ports, order, Bound(ports, far, landmarks, stretch)), {}
+    for u, row in rows.items():
+        towards[u] = [([to for start, to in row if start <= label] or [row[-1][1]])[-1] if d != u else None for label, d in enumerate(order)]
+    return "landmark", list(ports), {u: label for label, u in enumerate(order)}, {u: [v for v, _ in ports[u]] for u in ports}, towards
+
+
 class Network:
     """A network and its board, as the script left them."""
 
-    def __init__(self, text, kind, root):
-        self.text, self.graph = text, read_topology(text, "edgelist")
+    def __init__(self, text, kind, root, count=1, stretch=300):
+        self.text, self.graph, self.count, self.stretch = text, read_topology(text, "edgelist"), count, stretch
         self.nodes = list(self.graph)
         self.links = sorted({frozenset((u, v)) for u in self.nodes for v in self.graph[u]}, key=sorted)
         self.down, self.floor, self.learnt = set(), 1, 1
-        self.plans = [plan_of(text, "edgelist", kind, root)]
+        self.plans = [self.planned(kind, root or self.nodes[0])]
+
+    def planned(self, kind, root):
+        """The plan of a kind over the links that are up; nodes and ports stay in their order."""
+        if kind == "landmark":
+            ports = {u: [it for it in self.graph[u].items() if frozenset((u, it[0])) not in self.down] for u in self.nodes}
+            return landmark_plan(ports, root, self.count, self.stretch)
+        return plan_of(self.without(), "edgelist", kind, root)
 
     def without(self):
         """The text of the topology over the links that are up."""
@@ -52,7 +72,7 @@ class Network:
         elif word == "install":
             if not is_connected(self.nodes, [link for link in self.links if link not in self.down]):
                 return "Disconnected"
-            self.plans.append(plan_of(self.without(), "edgelist", *rest))
+            self.plans.append(self.planned(*rest))
         elif word == "retire":
             if not 1 <= int(rest[0]) <= len(self.plans):
                 return "NoEpoch"
@@ -82,8 +102,12 @@ class Network:
 def fault_of(luck, folder):
     """What is wrong with a run of a script by chance, and with the check of its trace."""
     _, text = drawn(luck, luck.randint(2, 12))
-    first = luck.choice(["tree", "shortest"])
-    net = Network(text, first, None)
+    kinds = ["tree", "shortest", "landmark", "landmark"]
+    first, nodes, words = luck.choice(kinds), len(read_topology(text, "edgelist")), []
+    count, stretch = luck.choice([None, 1, 2, nodes + 1]), luck.choice([None, 100, 150, 200])
+    words += ["--landmarks", str(count)] if count else []
+    words += ["--stretch", str(stretch)] if stretch else []
+    net = Network(text, first, None, count or fewest_for(nodes), stretch or 300)
     is_live = luck.random() < 0.5  # then each install is learnt at once, as a live run does by itself
     script, live, rows, refused = [], [], [], []
 
@@ -102,7 +126,7 @@ def fault_of(luck, folder):
                 step(luck.choice(["down", "down", "up"]) + " " + " ".join(sorted(luck.choice(net.links))))
             elif what == 3:
                 step(f"retire {luck.randrange(1, len(net.plans) + 2)}")
-            elif len(net.plans) < 60 and not step(f"install {luck.choice(['tree', 'shortest'])} {luck.choice(net.nodes)}"):
+            elif len(net.plans) < 60 and not step(f"install {luck.choice(kinds)} {luck.choice(net.nodes)}"):
                 if is_live or luck.random() < 0.5:
                     step(f"learn {len(net.plans)}")
         source, dest = luck.choice(net.nodes), luck.choice(net.nodes)
@@ -110,7 +134,7 @@ def fault_of(luck, folder):
         live += script[-2:]
         rows.append(net.row(number, source, dest))
     wanted = "trace 1\n" + "".join(rows), "".join(refused), 0
-    words = ["--kind", first, put(folder, "runs.edgelist", text)]
+    words = ["--kind", first, *words, put(folder, "runs.edgelist", text)]
     scripts = [("sim", script), *([("live", live)] if is_live else [])]
     for sub, lines in scripts:
         file = put(folder, "runs.script", "\n".join(lines) + "\n")

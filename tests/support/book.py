@@ -4,8 +4,6 @@ from __future__ import annotations
 import heapq
 from typing import Dict, Iterator, List, Optional, Tuple
 
-from support.checks import count
-from support.marks import root
 
 Row = List[Tuple[int, str]]  # the starts of a node, each with the next node
 

@@ -5,6 +5,7 @@ a tally before each test and take it afterwards; a test with a failed check fail
 """
 from __future__ import annotations
 
+import re
 from dataclasses import dataclass, field
 from typing import List
 
@@ -74,6 +75,37 @@ def skip(name: str, why: str, checks: int = 1) -> None:
     """
     _tallies[0].skipped += checks
     _tallies[0].said.append(f"skipped: {name}: {why}")
+
+
+def add(name: str, output: str, status: int) -> int:
+    """Count the checks of another program.
+
+    Parameters
+    ----------
+    name : str
+        What it checks.
+    output : str
+        What it printed: lines of what is wrong, and as the last one `N passed, M failed` or that and `, K skipped`.
+    status : int
+        With which status it ended.
+
+    Returns
+    -------
+    int
+        The number of its checks; 0 where its last line is no such line, which is a failure.
+    """
+    *lines, last = output.splitlines() or [""]
+    found = re.fullmatch(r"(\d+) passed, (\d+) failed(?:, (\d+) skipped)?", last)
+    if not found:
+        count(name, f"it ended with status {status}: {output[-2000:]}")
+        return 0
+    passed, failed, skipped = (int(it or 0) for it in found.groups())
+    failed = max(failed, int(status != 0))
+    _tallies[0].passed += passed
+    _tallies[0].skipped += skipped
+    _tallies[0].faults += [f"{name}: its lines say what"] * failed
+    _tallies[0].said += [line for line in lines if line.strip()]
+    return passed + failed + skipped
 
 
 def say(text: str) -> None:

@@ -52,7 +52,7 @@ def change(luck: random.Random, nodes: Sequence[str], links: Links, down: Links)
         return "up {} {}".format(*down.pop())
     if what == 2:
         return f"retire {luck.randrange(1, 60)}"
-    return "install {} {}".format(luck.choice(["tree", "shortest", "compact"]), luck.choice(nodes))
+    return "install {} {}".format(luck.choice(["tree", "shortest", "compact", "landmark"]), luck.choice(nodes))
 
 
 def all_pairs(links: int) -> str:
@@ -97,3 +97,13 @@ def filled(text: str, size: int) -> bytes:
 def band(nodes: int) -> str:
     """A chain in which each node is linked to the third one behind it, too: a tour numbers it for fewer intervals."""
     return "".join(f"n{u} n{u + 1} n{u + 3}\n" for u in range(nodes - 3))
+
+
+def crossing(nodes: int, packets: int, at_once: int) -> Tuple[str, str, str]:
+    """Packets from one end of a chain to the other and back by turns, drained after so many: a topology, a script and the trace."""
+    names, topology = row_of(nodes)
+    ways = [names, names[::-1]]
+    rows = [f" 1 {way[0]} {way[-1]} {nodes - 1} delivered {' '.join(way)}\n" for way in ways]
+    injects = [f"inject {way[0]} {way[-1]}\n" for way in ways]
+    script = "".join(injects[k % 2] + ("drain\n" if k % at_once == at_once - 1 else "") for k in range(packets))
+    return topology, script, "trace 1\n" + "".join(f"{k}{rows[k % 2]}" for k in range(packets))

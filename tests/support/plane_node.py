@@ -62,7 +62,7 @@ def refused(what: str, sentence: str, words: str, data: bytes = b"", **more: obj
 
 
 def table(row: Row, epoch: int) -> bytes:
-    return lines.as_bytes(lines.lines(row, epoch))
+    return bytes(lines.as_bytes(lines.lines(row, epoch)))
 
 
 def edited(epoch: int, row: Row, at: int, word: int) -> bytes:
@@ -86,46 +86,52 @@ def of_tables() -> None:
     taken("install", "install 1", good)
     taken("check", "check 1", good)
     taken("check, as text", "check 1", lines.as_text(lines.lines(row, 1)).encode())
+    output = taken("lines", "lines 1")
+    count("the lines in the kernel", None if output == lines.as_text(lines.lines(row, 1)) else output)
+    refused("lines of no table", "epoch 2 is not installed", "lines 2")
     for what, other in (("another start", ((0, 0), (6, 1))), ("another port", ((0, 0), (5, 0))), ("one start more", ((0, 0), (5, 1), (9, 0)))):
-        refused(what, "does not go as the row of epoch 1 says", "check 1", table(Row(14, 4, other), 1))
-    refused("another own label", "does not go as", "check 1", table(Row(14, 5, row.words), 1))
-    refused("more labels", "does not go as", "check 1", table(Row(15, 4, row.words), 1))
+        refused(what, "is not forwarded as the row of epoch 1 says", "check 1", table(Row(14, 4, other), 1))
+    refused("another own label", "is not forwarded as", "check 1", table(Row(14, 5, row.words), 1))
+    refused("more labels", "is not forwarded as", "check 1", table(Row(15, 4, row.words), 1))
     refused("epoch 65 in the slot of 1", "epoch 65 is not installed", "check 65", table(row, 65))
     refused("an epoch that is not installed", "epoch 2 is not installed", "check 2", table(row, 2))
     refused("a stamp that is not installed", "install it at all nodes", "stamp 2")
     taken("stamp", "stamp 1")
+    taken("stamp nothing", "stamp 0")
+    count("nothing is stamped", None if tool("show")[1].startswith("node SaltLakeCity mode xdp host bz0 own bz1 stamp 0\n") else tool("show")[1])
+    taken("stamp again", "stamp 1")
     refused("the stamped epoch is retired", "stamp another one first", "retire 1")
     refused("installed twice", "retire it first", "install 1", good)
     refused("a slot that is taken", "taken by epoch 1", "install 65", table(row, 65))
-    refused("another epoch's table", "of epoch 1, and not of epoch 3", "install 3", good)
+    refused("another epoch's table", "of epoch 1, not of epoch 3", "install 3", good)
     refused("starts out of order", "out of order: 5 comes after 5", "install 3", edited(3, row, 18, 5 << 16))
     refused("no start 0", "the first start of a table is 0", "install 3", edited(3, row, 16, 1 << 16))
-    refused("a start beyond the labels", "none of the labels 0 to 13", "install 3", edited(3, row, 17, 14 << 16))
+    refused("a start beyond the labels", "is not a label from 0 to 13", "install 3", edited(3, row, 17, 14 << 16))
     refused("a port that is not there", "this node has 2 ports", "install 3", edited(3, row, 17, 5 << 16 | 2))
     refused("a port of a byte that is not there", "this node has 2 ports", "install 3", table(Row(300, 4, tuple((i, i % 3) for i in range(300))), 3))
     refused("no label", "has 1 to 16384 labels", "install 3", edited(3, row, 1, 0))
     refused("too many labels", "has 1 to 16384 labels", "install 3", edited(3, row, 1, 16385))
-    refused("an own label beyond", "its own one among them", "install 3", edited(3, row, 2, 14))
-    refused("no depth", "depth is 0, 1, 2 or 255", "install 3", edited(3, row, 3, 3))
-    refused("a depth of another size", "another number of lines", "install 3", edited(3, row, 3, 1))
-    refused("no base", "another number of lines", "install 3", edited(3, row, 3, 2))
+    refused("an own label beyond", "its own label is one of them", "install 3", edited(3, row, 2, 14))
+    refused("no depth", "depth of a table is 0, 1, 2 or 255", "install 3", edited(3, row, 3, 3))
+    refused("a depth of another size", "cannot have", "install 3", edited(3, row, 3, 1))
+    refused("no base", "cannot have", "install 3", edited(3, row, 3, 2))
     refused("bytes of another size", "as bytes has 2 lines", "install 3", edited(3, row, 3, 255))
     refused("beyond 16,384 starts", "1 to 529 lines", "install 3", good * 530)
     refused("half a line", "lines of 128 bytes", "install 3", good + good[:64])
     refused("no table", "line 1 of the table|1 to 529 lines", "install 3", b"")
     refused("no number", "8 hexadecimal digits", "install 3", b"nothing\n")
     refused("half a line of text", "8 hexadecimal digits|lines of 32 words", "install 3", b"00000001 00000002\n")
-    refused("no epoch", "1 to 65535, and not 0", "install 0", good)
+    refused("no epoch", "1 to 65535, not 0", "install 0", good)
     refused("an epoch beyond", "1 to 65535", "install 65536", good)
     refused("retired, and not there", "epoch 3 is not installed", "retire 3")
     wrong = "/run/wrong"
-    for what, text, sentence in (("a row of another node", "14 5\n0 0\n5 1\n", "one of them is of another node"),
-                                 ("a row with another start", "14 4\n0 0\n6 1\n", "label 5 does not go as the row of epoch 3 says"),
+    for what, text, sentence in (("a row of another node", "14 5\n0 0\n5 1\n", "one of them belongs to another node"),
+                                 ("a row with another start", "14 4\n0 0\n6 1\n", "label 5 is not forwarded as the row of epoch 3 says"),
                                  ("a row out of order", "14 4\n5 1\n0 0\n", "out of order"), ("no row", "x\n", "LABELS OWN")):
         with open(wrong, "w", encoding="ascii") as file:
             file.write(text)
         refused(what, sentence, f"install 3 {wrong}", table(row, 3))
-    refused("a root that is one short", "does not go as", "install 3", edited(3, Row(1000, 0, tuple((2 * i, i % 2) for i in range(40))), 17, 0xFFFFFFFF))
+    refused("a root that is one short", "is not forwarded as", "install 3", edited(3, Row(1000, 0, tuple((2 * i, i % 2) for i in range(40))), 17, 0xFFFFFFFF))
     taken("epoch 1 as before", "check 1", good)
 
 
@@ -218,7 +224,7 @@ def of_packets(mode: str) -> None:
 def without_bpf() -> None:
     """A user without the right, and a kernel without BPF."""
     status, _, said = tool(up("xdp"), b"", "/run/bpf/m", preexec_fn=lambda: os.setuid(65534))
-    count("no right", None if status == 1 and "cannot run here" in said and "CAP_BPF" in said else f"status {status}: {said}")
+    count("no right", None if status == 1 and "cannot run here" in said and "CAP_SYS_ADMIN" in said else f"status {status}: {said}")
     with open("/run/no.c", "w", encoding="ascii") as file:
         file.write("#include <errno.h>\nlong syscall(long n, ...) { (void)n; errno = ENOSYS; return -1; }\n")
     sh("cc -shared -fPIC -o /run/no.so /run/no.c")
@@ -234,17 +240,17 @@ def of_devices() -> None:
         ("a device twice", "the device to2 is given twice", up("xdp") + " Z to2 02:00:00:00:00:09"),
         ("a neighbour twice", "a neighbour has one port", up("xdp") + " P0 far-to2 02:00:00:00:00:09"),
         ("the loopback", "the loopback device", up("xdp") + " Z lo 02:00:00:00:00:09"),
-        ("no hardware address", "no hardware address", up("xdp") + " Z far-to2 2:3"),
+        ("no hardware address", "not a hardware address", up("xdp") + " Z far-to2 2:3"),
         ("no mode", "xdp, generic or tc", up("fast")),
         ("no object", "there is no object", up("xdp").replace(OBJECT, "/run/none.o")),
-        ("an object of another kind", "no object of the plane", up("xdp").replace(OBJECT, "/etc/hostname")),
+        ("an object of another kind", "not an object of the plane", up("xdp").replace(OBJECT, "/etc/hostname")),
     ):
         status, _, said = tool(words)
         count(what, None if status == 1 and re.search(sentence, said) else f"status {status}: {said}")
         count(f"{what}: nothing is up", None if not os.path.exists(PINS) else str(os.listdir(PINS)))
     taken("up with one port", up("xdp", 1))
     status, _, said = tool(up("xdp"), b"", "/run/bpf/other")
-    count("a device in use", None if status == 1 and "has a program already" in said else f"status {status}: {said}")
+    count("a device in use", None if status == 1 and "already has a program" in said else f"status {status}: {said}")
     count("a device in use: the first plane stays", None if tool("show")[1].startswith("node SaltLakeCity mode xdp") else tool("show")[2])
     taken("install at one port", "install 1", table(Row(4, 0, ((1, 0),)), 1))
     sh("ip link del to2")
@@ -263,17 +269,23 @@ def of_words() -> None:
     """The words of the package: a plane of NSFNET's SaltLakeCity."""
     global skipped
     if not ROUTE:
-        print("plane: the program is not built: 9 checks are not tried")
-        skipped += 9
+        print("plane: the program is not built: 11 checks are not tried")
+        skipped += 11
         return
     net = "examples/nsfnet.edgelist"
+    table_words = ["table", "3", net, "--kind", "tree", "--root", "Houston", "--node", "SaltLakeCity"]
+    made = subprocess.run([ROUTE, "xdp", *table_words], capture_output=True, text=True, timeout=60, check=False).stdout
+    with open("/run/made", "w", encoding="ascii") as file:
+        file.write(made)
+    count("words: the program's table is the package's", None if made and made == python(" ".join(table_words))[1] else made)
     for what, wanted, sentence, words in (
         ("up", 0, "", f"up --node SaltLakeCity --object {OBJECT} PaloAlto=to2,{MACS['to2']} Boulder=to7,{MACS['to7']}"),
         ("install", 0, "", f"install 1 {net} --kind tree --root Houston"),
         ("check", 0, "", f"check 1 {net} --kind tree --root Houston --node SaltLakeCity"),
-        ("check of another plan", 1, "does not go as", f"check 1 {net} --kind tree --root SanDiego"),
-        ("another node", 1, "is of SaltLakeCity, and not of Houston", f"install 2 {net} --node Houston"),
-        ("a neighbour without a port", 1, "to which there is no port", f"install 2 {net} --kind shortest"),
+        ("install the program's table", 0, "", f"install 3 {net} --kind tree --root Houston --lines /run/made"),
+        ("check of another plan", 1, "is not forwarded as", f"check 1 {net} --kind tree --root SanDiego"),
+        ("another node", 1, "belongs to SaltLakeCity, not to Houston", f"install 2 {net} --node Houston"),
+        ("a neighbour without a port", 1, "which has no port", f"install 2 {net} --kind shortest"),
         ("stamp", 0, "", "stamp 1"),
         ("a port without an address", 1, "give the neighbour's", "up --node A X=to2"),
         ("down", 0, "", "down"),

@@ -22,18 +22,18 @@ PLACEHOLDER = r"\{[^{}]*\}|\\n"
 # Parts of sentences that no text of a user makes the program say.
 MEMORY = "tests/refused-memory refuses each allocation; the program then says so without a sentence"
 UNREACHED: Dict[str, str] = {
-    "memory was refused while the trace was checked": MEMORY,
-    "memory was refused while the order was read": MEMORY,
-    "memory was refused while the topology was opened": MEMORY,
-    "memory was refused while the script was read": MEMORY,
-    "memory was refused while the topology was read": MEMORY,
-    "the hops leave the walk that the plan of their epoch prescribes, or stop where the fate does not say so":
+    "out of memory while checking the trace": MEMORY,
+    "out of memory while reading the numbering": MEMORY,
+    "out of memory while opening the topology": MEMORY,
+    "out of memory while reading the script": MEMORY,
+    "out of memory while reading the topology": MEMORY,
+    "the hops leave the path of their epoch's plan, or end where the fate does not explain it":
         "each finding of this kind says where, but for want of memory",
-    "the board has no place for a reader of each node": "a board is opened with a reader for each node",
-    "a fresh cell of the registry refused its plan": "the kit's cell does so where it was written before, and it is new",
+    "the board has too few places for a reader of each node": "a board is opened with a reader for each node",
+    "a new cell of the registry refused its plan": "the kit's cell does so where it was written before, and it is new",
     "it names no node": "a script's names are looked up before it is played",
     "it names no link": "a script's links are looked up before it is played",
-    "the node is at no end of that link": "a script's links are looked up before it is played",
+    "the node is not an end of that link": "a script's links are looked up before it is played",
 }
 
 _seen: Set[bytes] = set()

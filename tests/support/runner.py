@@ -29,16 +29,24 @@ from support import checks, places, printed  # noqa: E402
 PARTS = {
     "names": ["names", "wants"],
     "style": ["style"],
+    "completions": ["completions"],
+    "dataplane": ["dataplane"],
+    "fleet": ["fleet"],
+    "fleet_sim": ["fleet_sim"],
+    "lab": ["lab"],
     "library": ["library", "release"],
     "page": ["page"],
     "program": ["examples", "inputs", "words", "outputs", "called", "documents", "plans", "figures", "circles", "live",
-                "whole", "sizes", "explained", "explained_inputs", "landmarks",
+                "whole", "sizes", "limits", "explained", "explained_inputs", "landmarks",
                 "terminals"],
+    "plane": ["plane"],
+    "python": ["python"],
     "runs": ["runs", "runs_great"],
 }
 WANT_PROGRAM = {"program", "runs"}
-QUICK = {"names", "style"}  # of some seconds, which pytest would double
-ALONE = {"runs", "library", "page"}  # whose tests all run alone
+QUICK = {"completions", "names"}  # of some seconds, which pytest would double
+ALONE = {"dataplane", "fleet_sim", "lab", "library", "page", "plane", "runs"}  # whose tests all run alone
+MOST = {"fleet": 3}  # processes that run tests of a part at a time, where 8 are too many
 LAST = r"(\d+) passed, (\d+) failed(?:, (\d+) skipped)?"
 
 
@@ -103,12 +111,12 @@ def by_pytest(part: str, sections: List[str], marks: str, words: List[str]) -> T
     return counted
 
 
-def many_words() -> List[str]:
-    """Return the words by which pytest runs tests on several processors; none where it can't."""
+def many_words(part: str) -> List[str]:
+    """Return the words by which pytest runs tests of a part on several processors; none where it can't."""
     processors = len(os.sched_getaffinity(0))
     if processors == 1 or importlib.util.find_spec("xdist") is None:
         return []
-    return ["-n", str(min(processors, 8)), "--dist", "worksteal" if has_worksteal() else "load"]
+    return ["-n", str(min(processors, MOST.get(part, 8))), "--dist", "worksteal" if has_worksteal() else "load"]
 
 
 def has_worksteal() -> bool:
@@ -129,7 +137,7 @@ def ran(part: str, sections: List[str]) -> Tuple[int, int, int]:
     if importlib.util.find_spec("pytest") is None:
         print("there is no pytest here, which packaging/test-packages installs: the tests run one by one", flush=True)
         return without_pytest(part, sections)
-    many = [] if part in ALONE else many_words()
+    many = [] if part in ALONE else many_words(part)
     runs = [by_pytest(part, sections, "not alone", many), by_pytest(part, sections, "alone", [])] if many else [
         by_pytest(part, sections, "alone or not alone", [])]
     return sum(run[0] for run in runs), sum(run[1] for run in runs), sum(run[2] for run in runs)

@@ -66,7 +66,7 @@ def wrong_words() -> Iterator[Words]:
     yield from (["plan", "--to", "a", "-"], ["stats", "--from", "a", "-"], ["prefixes", "--to", "a", "-"], ["plan", "--depth", "1", "-"])
 
 
-OK_SAID = "{}: hops and weights are those of the plans; injects, causes of drops and missing rows were not looked at (--whole looks at the first two)"
+OK_SAID = "{}: hops and weights follow the plans; injects, causes of drops and missing rows are not checked (--whole checks the first two)"
 
 
 def explained_as(name: str, words_: List[str], line: str, sentence: str, output: bytes = b"", status: int = 1,
@@ -86,11 +86,11 @@ def explained_as(name: str, words_: List[str], line: str, sentence: str, output:
 
 
 def said_of(sub: str, words_: List[str]) -> bytes:
-    """The sentences of a run without a fault: `check` says what it has not looked at."""
+    """The sentences of a run without a fault: `check` says what it has not checked."""
     return f"route: {OK_SAID.format(words_[-1])}\n".encode() if sub == "check" else b""
 
 
-NO_WORDS = b"route: topology and script are read from standard input, with the line %% between them; see route --help\n"
+NO_WORDS = b"route: reading a topology and a script from standard input, with a line %% between them; see route --help\n"
 
 
 def after_patience(words_: List[str], data: bytes, limit: int = resource.RLIM_INFINITY) -> Tuple[bytes, bytes, int, int]:

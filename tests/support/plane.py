@@ -1,0 +1,165 @@
+"""The plane in XDP, on this machine: `tests/plane` and tests/test_plane.py run it.
+
+It builds the plane by plane/make; then what its loader takes and refuses, each label asked in the kernel, and real packets
+by generic XDP and by tc (plane_node.py beside this file); the same over the proved search of crates/plane_lines where the
+libraries below it are built here, as rt ci leaves them, or over that of the variable MODULE; which modules plane/to_bpf
+refuses; and the lab over each plane, in which no packet may be lost or mixed, and in place some have to be.
+
+It runs at the top of the repository, with python in PYTHONPATH and the program in BENTZOLU_ROUTE. The last line is
+`N passed, M failed` or that and `, K skipped`; the status is above 0 where something differs.
+"""
+import os
+import pathlib
+import re
+import subprocess
+import sys
+import tempfile
+
+from bentzolu.lab_xdp import PROBE
+
+TOP = pathlib.Path.cwd()
+ROUTE = os.environ["BENTZOLU_ROUTE"]
+NODE_CHECKS, LAB_CHECKS, MODULE_CHECKS = 206, 5, 10
+MODULE = os.environ.pop("MODULE", None)  # of the proved search
+ABILENE = "examples/abilene.edgelist"
+passed = failed = skipped = 0
+
+
+def count(what, wrong):
+    """Counts a check, which failed where something is wrong."""
+    global passed, failed
+    passed, failed = passed + (not wrong), failed + bool(wrong)
+    if wrong:
+        print(f"plane: {what}: {wrong}", flush=True)
+
+
+def skip(checks, why):
+    global skipped
+    skipped += checks
+    print(f"plane: {why}: {checks} checks are not tried", flush=True)
+
+
+def run(words, seconds=300, **more):
+    """The status, the output and what a command says."""
+    try:
+        done = subprocess.run(words, capture_output=True, text=True, timeout=seconds, stdin=subprocess.DEVNULL, check=False, **more)
+    except subprocess.TimeoutExpired:
+        return "hangs", "", f"it takes more than {seconds} s"
+    return done.returncode, done.stdout, done.stderr
+
+
+def built(folder, **more):
+    """Why the plane can't be built into a folder, or None."""
+    status, _, said = run(["plane/make"], env={**os.environ, "OUT": folder, **more})
+    if status and "there is no" in said:
+        return said.strip()
+    count("plane/make", None if status == 0 else said[-2000:])
+    return None if status == 0 else "plane/make failed"
+
+
+def is_proved_below():
+    """Whether the libraries of crates/plane_lines are built here, and the kit is: then its proof and its build take less than
+    a minute."""
+    libraries = [f"crates/{name}/out/rlib/{name}.rlib" for name in ("ir_model", "ir_lookup", "ir_lines")]
+    return all(map(os.path.exists, libraries)) and run(["site/kit"])[0] == 0
+
+
+def refused_here(folder):
+    """Why no plane can go up here, or None."""
+    if os.geteuid() != 0:
+        return "only root can load programs of BPF"
+    probe = PROBE.format(pins="/run/bpf", tool=f"{folder}/bentzolu-xdp", object=f"{folder}/plane.bpf.o", mode="xdp")
+    status, _, said = run(["unshare", "--mount", "--propagation", "private", "sh", "-e", "-c", "mount -t tmpfs tmpfs /run\n" + probe], 60)
+    return None if status == 0 else (said.strip().splitlines() or [f"status {status}"])[0]
+
+
+def of_node(folder, checks):
+    """The checks of one node, in namespaces of their own."""
+    global passed, failed, skipped
+    words = ["unshare", "--mount", "--net", "--pid", "--fork", "--mount-proc", "--kill-child", sys.executable, "tests/support/plane_node.py"]
+    status, output, said = run([*words, f"{folder}/bentzolu-xdp", f"{folder}/plane.bpf.o", ROUTE if os.access(ROUTE, os.X_OK) else ""], 400)
+    print("".join(line + "\n" for line in output.splitlines()[:-1]), end="", flush=True)
+    found = re.search(r"^(\d+) passed, (\d+) failed(?:, (\d+) skipped)?\n\Z", output, flags=re.M)
+    if not found:
+        count("the checks of a node", f"status {status}: {said[-1000:]}")
+        return
+    passed, failed, skipped = passed + int(found[1]), failed + int(found[2]), skipped + int(found[3] or 0)
+    all_of_them = sum(int(it or 0) for it in found.groups())
+    count("all checks of a node", None if all_of_them == checks else f"{all_of_them} in place of {checks}: change the number in tests/support/plane.py")
+
+
+def of_modules(folder):
+    """Modules that plane/to_bpf takes, and those that it refuses with a sentence."""
+    functions = "".join(f"define i32 @{name}(i64 %a, i32 %b) #0 {{\n  {{body}}\n  ret i32 %b\n}}\n\n" for name in ("bz_place_16", "bz_place_32", "bz_head"))
+    head = 'target triple = "x86_64-unknown-linux-gnu"\n\n'
+    tail = 'attributes #0 = { nounwind "target-cpu"="x86-64-v2" "probe-stack"="inline-asm" }\n'
+    asm = 'call void asm sideeffect "nop", ""()'
+    for what, module, sentence in (
+        ("three functions", head + functions.replace("{body}", "") + tail, None),
+        ("functions that nothing calls", head + functions.replace("{body}", "") + f"define void @other() #0 {{\n  {asm}\n  ret void\n}}\n" + tail, None),
+        ("assembly", head + functions.replace("{body}", asm) + tail, "assembly"),
+        ("a trap", head + functions.replace("{body}", "call void @llvm.trap()") + "declare void @llvm.trap()\n" + tail, "a trap"),
+        ("a call", head + functions.replace("{body}", "call void @abort()") + "declare void @abort()\n" + tail, "names abort"),
+        ("a way without an end", head + functions.replace("ret i32 %b", "unreachable").replace("{body}", "") + tail, "without an end"),
+        ("floating point", head + functions.replace("{body}", "%f = uitofp i32 %b to double") + tail, "floating point"),
+        ("data", head + "@table = internal global i32 7\n\n" + functions.replace("{body}", "store i32 %b, i32* @table") + tail, "names table|does not take"),
+        ("a function that is missing", head + functions.replace("bz_head", "bz_tail").replace("{body}", "") + tail, "no function bz_head"),
+        ("no module", "nothing\n", "does not take the module"),
+    ):
+        given, made = f"{folder}/given.ll", f"{folder}/made.bc"
+        pathlib.Path(given).write_text(module)
+        status, _, said = run(["plane/to_bpf", given, made])
+        right = status == 0 and os.path.getsize(made) > 0 if sentence is None else status == 1 and re.search(sentence, said) and said.startswith("to_bpf: ")
+        count(f"to_bpf: {what}", None if right else f"status {status}: {said.strip()}")
+
+
+def of_lab(*words, differs=False):
+    """A run of the lab: none is lost or mixed, or in place some are. The first of three that is right: a machine with other work
+    may drop packets that it has no time for, and whether a packet meets a row in between is chance."""
+    for seed in ("1", "2", "3"):
+        status, output, said = run([sys.executable, "-m", "bentzolu", "lab", "--seconds", "0.5", "--seed", seed, *words, ABILENE])
+        if re.search(r"^lab: cannot run here: ", said, flags=re.M):
+            return skip(1, said.strip().splitlines()[-1])
+        lost, mixed = ([int(it) for it in re.findall(rf"^{name} (\d+)$", output, flags=re.M)] for name in ("lost", "mixed"))
+        last = (output.splitlines() or [""])[-1]
+        if differs:
+            right = status == 1 and last == "differs" and lost and lost[0] > 0 and mixed[0] > 0
+        else:
+            right = status == 0 and last == "ok" and lost == mixed == [0]
+        if right:
+            break
+    return count(f"lab {' '.join(words)}", None if right else f"status {status}: {' / '.join(output.splitlines())} {said[-500:]}")
+
+
+with tempfile.TemporaryDirectory(prefix="bentzolu-plane-") as work:
+    os.chmod(work, 0o755)  # a user without rights runs the loader, too
+    why = built(f"{work}/c")
+    if why:
+        skip(1 + MODULE_CHECKS + 2 * (NODE_CHECKS + 1) + 1 + LAB_CHECKS, why)
+    else:
+        os.environ["BENTZOLU_XDP"] = f"{work}/c/bentzolu-xdp"
+        of_modules(work)
+        cannot = refused_here(f"{work}/c")
+        if cannot:
+            skip(NODE_CHECKS + 1 + LAB_CHECKS, f"cannot run here: {cannot}")
+        else:
+            of_node(f"{work}/c", NODE_CHECKS)
+        if MODULE or is_proved_below():
+            given = {"MODULE": MODULE} if MODULE else {"BUILT": "1"}
+            status, _, said = run(["plane/make", *([] if MODULE else ["proved"])], 600, env={**os.environ, **given, "OUT": f"{work}/proved"})
+            count("plane/make proved", None if status == 0 else said[-2000:])
+            if status == 0 and not cannot:
+                of_node(f"{work}/proved", NODE_CHECKS)
+                os.environ["BENTZOLU_XDP"] = f"{work}/proved/bentzolu-xdp"
+        else:
+            skip(NODE_CHECKS + 2, "the libraries of crates/plane_lines are not built")
+        if not cannot and not os.access(ROUTE, os.X_OK):
+            skip(LAB_CHECKS, "the program is not built")
+        elif not cannot:
+            of_lab("--plane", "xdp", "--changes", "4")
+            of_lab("--plane", "generic")
+            of_lab("--plane", "tc")
+            of_lab("--plane", "xdp", "--in-place", differs=True)
+            of_lab("--plane", "nft", "--changes", "2")
+print(f"{passed} passed, {failed} failed" + (f", {skipped} skipped" if skipped else ""))
+sys.exit(failed > 0)
