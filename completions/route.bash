@@ -1,34 +1,152 @@
-# Completions of route for bash. tests/completions holds them to the options of the program.
+# Completions of route for bash, which completions/make writes.
 
-# The subcommands.
+# The subcommands below a command, which is named by its words; the program has none.
 _bentzolu_subcommands() {
-    echo 'plan walk stats compare draw prefixes ranges sim live check help'
-}
-
-# The options of a subcommand, or of the program where there is none.
-_bentzolu_options() {
-    local routed='-f --format -k --kind --landmarks --stretch -r --root -n --numbering' told='-o --output --quiet --explain --no-explain --help'
     case ${1-} in
-        plan) echo "$routed --threads --order --json $told" ;;
-        walk) echo "$routed --threads --from --to --json $told" ;;
-        stats) echo "$routed --threads --with --json $told" ;;
-        compare) echo "-f --format -r --root --threads --json $told" ;;
-        draw) echo "$routed --threads --from --to --node --svg $told" ;;
-        prefixes) echo "$routed --threads --disjoint --json $told" ;;
-        ranges) echo "$routed --threads --json $told" ;;
-        sim | live) echo "$routed --capacity --packets --restamps --json $told" ;;
-        check) echo "$routed --capacity --packets --whole --json $told" ;;
-        '') echo '--help --version' ;;
+        '') echo 'plan walk stats compare draw prefixes ranges xdp sim live check help' ;;
+        help) echo 'plan walk stats compare draw prefixes ranges xdp sim live check' ;;
     esac
 }
 
-# The values of an option of a subcommand, where they are few. A numbering may be a file too, but for runs.
+# What stands at a place of a command, counted from 1: words and `<file>`.
+_bentzolu_places() {
+    case ${1-},$2 in
+        plan,1) echo '<file>' ;;
+        walk,1) echo '<file>' ;;
+        stats,1) echo '<file>' ;;
+        compare,1) echo '<file>' ;;
+        draw,1) echo '<file>' ;;
+        prefixes,1) echo '<file>' ;;
+        ranges,1) echo '<file>' ;;
+        xdp,1) echo table ;;
+        xdp,3) echo '<file>' ;;
+        sim,1) echo '<file>' ;;
+        sim,2) echo '<file>' ;;
+        live,1) echo '<file>' ;;
+        live,2) echo '<file>' ;;
+        check,1) echo '<file>' ;;
+        check,2) echo '<file>' ;;
+        check,3) echo '<file>' ;;
+    esac
+}
+
+# The options of a command.
+_bentzolu_options() {
+    case ${1-} in
+        '') echo '--help --version' ;;
+        plan) echo '-f --format -k --kind --landmarks --stretch -r --root -n --numbering --threads --order --json -o --output --quiet --explain --no-explain --help' ;;
+        walk) echo '-f --format -k --kind --landmarks --stretch -r --root -n --numbering --threads --from --to --json -o --output --quiet --explain --no-explain --help' ;;
+        stats) echo '-f --format -k --kind --landmarks --stretch -r --root -n --numbering --threads --with --json -o --output --quiet --explain --no-explain --help' ;;
+        compare) echo '-f --format -r --root --threads --json -o --output --quiet --explain --no-explain --help' ;;
+        draw) echo '-f --format -k --kind --landmarks --stretch -r --root -n --numbering --threads --from --to --node --svg -o --output --quiet --explain --no-explain --help' ;;
+        prefixes) echo '-f --format -k --kind --landmarks --stretch -r --root -n --numbering --threads --disjoint --json -o --output --quiet --explain --no-explain --help' ;;
+        ranges) echo '-f --format -k --kind --landmarks --stretch -r --root -n --numbering --threads --json -o --output --quiet --explain --no-explain --help' ;;
+        xdp) echo '-f --format -k --kind --landmarks --stretch -r --root -n --numbering --threads --node -o --output --quiet --explain --no-explain --help' ;;
+        sim) echo '-f --format -k --kind --landmarks --stretch -r --root -n --numbering --capacity --packets --restamps --json -o --output --quiet --explain --no-explain --help' ;;
+        live) echo '-f --format -k --kind --landmarks --stretch -r --root -n --numbering --capacity --packets --restamps --json -o --output --quiet --explain --no-explain --help' ;;
+        check) echo '-f --format -k --kind --landmarks --stretch -r --root -n --numbering --capacity --packets --whole --json -o --output --quiet --explain --no-explain --help' ;;
+    esac
+}
+
+# What an option of a command takes: words, `<file>` and `<node>`; `<any>` is a word of which nothing is known.
 _bentzolu_values() {
-    case $1,${2-} in
-        -f,* | --format,*) echo 'adjlist edgelist' ;;
-        -k,* | --kind,*) echo 'tree shortest compact landmark' ;;
-        -n,sim | -n,live | -n,check | --numbering,sim | --numbering,live | --numbering,check) echo 'depth-first tour' ;;
-        --restamps,*) echo '0 1 2 3' ;;
+    case ${2-},$1 in
+        plan,-f | plan,--format) echo 'adjlist edgelist' ;;
+        plan,-k | plan,--kind) echo 'tree shortest compact landmark' ;;
+        plan,--landmarks) echo '<any>' ;;
+        plan,--stretch) echo '<any>' ;;
+        plan,-r | plan,--root) echo '<node>' ;;
+        plan,-n | plan,--numbering) echo 'depth-first tour <file>' ;;
+        plan,--threads) echo '<any>' ;;
+        plan,-o | plan,--output) echo '<file>' ;;
+        walk,-f | walk,--format) echo 'adjlist edgelist' ;;
+        walk,-k | walk,--kind) echo 'tree shortest compact landmark' ;;
+        walk,--landmarks) echo '<any>' ;;
+        walk,--stretch) echo '<any>' ;;
+        walk,-r | walk,--root) echo '<node>' ;;
+        walk,-n | walk,--numbering) echo 'depth-first tour <file>' ;;
+        walk,--threads) echo '<any>' ;;
+        walk,--from) echo '<node>' ;;
+        walk,--to) echo '<node>' ;;
+        walk,-o | walk,--output) echo '<file>' ;;
+        stats,-f | stats,--format) echo 'adjlist edgelist' ;;
+        stats,-k | stats,--kind) echo 'tree shortest compact landmark' ;;
+        stats,--landmarks) echo '<any>' ;;
+        stats,--stretch) echo '<any>' ;;
+        stats,-r | stats,--root) echo '<node>' ;;
+        stats,-n | stats,--numbering) echo 'depth-first tour <file>' ;;
+        stats,--threads) echo '<any>' ;;
+        stats,--with) echo '<any>' ;;
+        stats,-o | stats,--output) echo '<file>' ;;
+        compare,-f | compare,--format) echo 'adjlist edgelist' ;;
+        compare,-r | compare,--root) echo '<node>' ;;
+        compare,--threads) echo '<any>' ;;
+        compare,-o | compare,--output) echo '<file>' ;;
+        draw,-f | draw,--format) echo 'adjlist edgelist' ;;
+        draw,-k | draw,--kind) echo 'tree shortest compact landmark' ;;
+        draw,--landmarks) echo '<any>' ;;
+        draw,--stretch) echo '<any>' ;;
+        draw,-r | draw,--root) echo '<node>' ;;
+        draw,-n | draw,--numbering) echo 'depth-first tour <file>' ;;
+        draw,--threads) echo '<any>' ;;
+        draw,--from) echo '<node>' ;;
+        draw,--to) echo '<node>' ;;
+        draw,--node) echo '<node>' ;;
+        draw,-o | draw,--output) echo '<file>' ;;
+        prefixes,-f | prefixes,--format) echo 'adjlist edgelist' ;;
+        prefixes,-k | prefixes,--kind) echo 'tree shortest compact landmark' ;;
+        prefixes,--landmarks) echo '<any>' ;;
+        prefixes,--stretch) echo '<any>' ;;
+        prefixes,-r | prefixes,--root) echo '<node>' ;;
+        prefixes,-n | prefixes,--numbering) echo 'depth-first tour <file>' ;;
+        prefixes,--threads) echo '<any>' ;;
+        prefixes,-o | prefixes,--output) echo '<file>' ;;
+        ranges,-f | ranges,--format) echo 'adjlist edgelist' ;;
+        ranges,-k | ranges,--kind) echo 'tree shortest compact landmark' ;;
+        ranges,--landmarks) echo '<any>' ;;
+        ranges,--stretch) echo '<any>' ;;
+        ranges,-r | ranges,--root) echo '<node>' ;;
+        ranges,-n | ranges,--numbering) echo 'depth-first tour <file>' ;;
+        ranges,--threads) echo '<any>' ;;
+        ranges,-o | ranges,--output) echo '<file>' ;;
+        xdp,-f | xdp,--format) echo 'adjlist edgelist' ;;
+        xdp,-k | xdp,--kind) echo 'tree shortest compact landmark' ;;
+        xdp,--landmarks) echo '<any>' ;;
+        xdp,--stretch) echo '<any>' ;;
+        xdp,-r | xdp,--root) echo '<node>' ;;
+        xdp,-n | xdp,--numbering) echo 'depth-first tour <file>' ;;
+        xdp,--threads) echo '<any>' ;;
+        xdp,--node) echo '<node>' ;;
+        xdp,-o | xdp,--output) echo '<file>' ;;
+        sim,-f | sim,--format) echo 'adjlist edgelist' ;;
+        sim,-k | sim,--kind) echo 'tree shortest compact landmark' ;;
+        sim,--landmarks) echo '<any>' ;;
+        sim,--stretch) echo '<any>' ;;
+        sim,-r | sim,--root) echo '<node>' ;;
+        sim,-n | sim,--numbering) echo 'depth-first tour' ;;
+        sim,--capacity) echo '<any>' ;;
+        sim,--packets) echo '<any>' ;;
+        sim,--restamps) echo '0 1 2 3' ;;
+        sim,-o | sim,--output) echo '<file>' ;;
+        live,-f | live,--format) echo 'adjlist edgelist' ;;
+        live,-k | live,--kind) echo 'tree shortest compact landmark' ;;
+        live,--landmarks) echo '<any>' ;;
+        live,--stretch) echo '<any>' ;;
+        live,-r | live,--root) echo '<node>' ;;
+        live,-n | live,--numbering) echo 'depth-first tour' ;;
+        live,--capacity) echo '<any>' ;;
+        live,--packets) echo '<any>' ;;
+        live,--restamps) echo '0 1 2 3' ;;
+        live,-o | live,--output) echo '<file>' ;;
+        check,-f | check,--format) echo 'adjlist edgelist' ;;
+        check,-k | check,--kind) echo 'tree shortest compact landmark' ;;
+        check,--landmarks) echo '<any>' ;;
+        check,--stretch) echo '<any>' ;;
+        check,-r | check,--root) echo '<node>' ;;
+        check,-n | check,--numbering) echo 'depth-first tour' ;;
+        check,--capacity) echo '<any>' ;;
+        check,--packets) echo '<any>' ;;
+        check,-o | check,--output) echo '<file>' ;;
     esac
 }
 
@@ -48,10 +166,24 @@ _bentzolu_nodes() {
 }
 
 _bentzolu() {
-    local word=${COMP_WORDS[COMP_CWORD]} before=${COMP_WORDS[COMP_CWORD - 1]} subcommand=
-    if [ "$COMP_CWORD" -gt 1 ]; then
-        subcommand=${COMP_WORDS[1]}
-    fi
+    local word=${COMP_WORDS[COMP_CWORD]} before=${COMP_WORDS[COMP_CWORD - 1]} command='' values='' place=0 is_value='' it
+    for it in "${COMP_WORDS[@]:1:COMP_CWORD-1}"; do
+        case $place," $(_bentzolu_subcommands "$command") " in
+            0,*" $it "*)
+                command=${command:+$command }$it
+                continue ;;
+            0,*) place=1 ;;
+        esac
+        if [ "$it" = = ]; then
+            is_value=yes
+        elif [ -n "$is_value" ]; then
+            is_value=
+        elif [[ $it = -* ]]; then
+            [ -z "$(_bentzolu_values "$it" "$command")" ] || is_value=yes
+        else
+            place=$((place + 1))
+        fi
+    done
     COMPREPLY=()
     # Readline makes a word of the `=` between an option and its value.
     if [ "$word" = = ]; then
@@ -60,28 +192,24 @@ _bentzolu() {
         before=${COMP_WORDS[COMP_CWORD - 2]}
     fi
     case $before in
-        -f | --format | -k | --kind | --restamps) COMPREPLY=($(compgen -W "$(_bentzolu_values "$before")" -- "$word")) ;;
-        -n | --numbering)
-            COMPREPLY=($(compgen -W 'depth-first tour' -- "$word"))
-            if [ -z "$(_bentzolu_values "$before" "$subcommand")" ]; then
-                compopt -o filenames 2> /dev/null
-                COMPREPLY+=($(compgen -f -- "$word"))
-            fi ;;
-        -o | --output)
-            compopt -o filenames 2> /dev/null
-            COMPREPLY=($(compgen -f -- "$word")) ;;
-        -r | --root | --from | --to | --node) mapfile -t COMPREPLY < <(_bentzolu_nodes "$word") ;;
-        --capacity | --landmarks | --packets | --stretch | --threads | --with) ;;
-        *)
-            if [ -z "$subcommand" ] && [[ $word != -* ]] || [ "$subcommand" = help ]; then
-                COMPREPLY=($(compgen -W "$(_bentzolu_subcommands)" -- "$word"))
-            elif [[ $word == -* ]]; then
-                COMPREPLY=($(compgen -W "$(_bentzolu_options "$subcommand")" -- "$word"))
-            else
-                compopt -o filenames 2> /dev/null
-                COMPREPLY=($(compgen -f -- "$word"))
-            fi ;;
+        -*) values=$(_bentzolu_values "$before" "$command") ;;
     esac
+    if [ -z "$values" ]; then
+        case $word in
+            -*) values=$(_bentzolu_options "$command") ;;
+            *) values="$(_bentzolu_subcommands "$command") $(_bentzolu_places "$command" "$((place > 0 ? place : 1))")" ;;
+        esac
+    fi
+    for it in $values; do
+        case $it in
+            '<file>')
+                compopt -o filenames 2> /dev/null
+                while IFS= read -r it; do COMPREPLY+=("$it"); done < <(compgen -f -- "$word") ;;
+            '<node>') while IFS= read -r it; do COMPREPLY+=("$it"); done < <(_bentzolu_nodes "$word") ;;
+            '<any>') ;;
+            "$word"*) COMPREPLY+=("$it") ;;
+        esac
+    done
 }
 
 complete -F _bentzolu route
