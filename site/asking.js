@@ -97,9 +97,9 @@ async function askPlan() {
   store.set({ texts: { compared, comparedOf, plan: isMade ? answer.output : "" }, isLong: answer.took > LONG && Boolean(graph) && graph.names.length > MANY });
   store.set({ plan: isMade && graph && !isStale ? readPlans(answer.output, graph).plans[0] || null : null });
   if (isMade && graph) tell([saidOfPlan(graph, answer), ...said].join(". "), said.length > 0 ? "note" : "dim", actions);
-  else if (isMade) tell(`A plan of more than ${MOST_DRAWN} nodes: it is not drawn; Save has it as text.`);
+  else if (isMade) tell(`Plans of more than ${MOST_DRAWN} nodes are not drawn; Save has this one as text.`);
   else if (topology.trim() === "") tell("No network yet: paste one, open a file, or draw.");
-  else tell((sentences.map(it => (it.line > 0 ? `Line ${it.line}: ` : "") + inPage(it.said).said)[0] || "refused") + (isStale ? " (the drawing is the last network that could be read)" : ""), "fault", actions);
+  else tell((sentences.map(it => (it.line > 0 ? `Line ${it.line}: ` : "") + inPage(it.said).said)[0] || "refused") + (isStale ? " (the drawing shows the last network that could be read)" : ""), "fault", actions);
   showPlan();
   store.set({ isRunDue: false });
   return answer.took;

@@ -284,7 +284,7 @@ export function drawRows() {
   const { areRowsShown, plan, drawing, graph } = store.now;
   if (!areRowsShown || !plan || !drawing.names) return;
   const { names } = graph, { points } = drawing;
-  const said = plan.rows.map(row => rowInWords(row, names.map(name => shortName(name, 9))).split(/: |  /));
+  const said = plan.rows.map(row => rowInWords(row, names.map(name => shortName(name, 9))).split(/: | {2}/));
   const heights = points.map(p => p.y), middle = heights.reduce((sum, y) => sum + y, 0) / heights.length;
   said.forEach((parts, u) => {
     const p = points[u], shown = parts.slice(0, 7), high = 38 + shown.length * 12;

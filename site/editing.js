@@ -144,10 +144,10 @@ export function pick(u) {
 function toolTold() {
   const { picked, graph, tool } = store.now, from = picked === null || !graph ? null : graph.names[picked];
   return {
-    look: from ? `from ${from}: click where the walk goes` : "click two nodes for the walk between them",
+    look: from ? `from ${from}: click where the path ends` : "click two nodes for the path between them",
     draw: from ? `click a node, or a free place for a new one, to link ${from} with it` : "click a free place for a node, two nodes for a link, a weighted link for its weight",
-    break: "a click on a link breaks it at this step of the playback; a second mends it",
-    erase: "click a node or a link to take it away",
+    break: "click a link to break it at this step of the playback; click again to repair it",
+    erase: "click a node or a link to remove it",
   }[tool];
 }
 

@@ -19,14 +19,14 @@ export function figuresOf(text) {
     ["Intervals", `${of.get("starts")}; full tables have ${of.get("entries")} entries`],
     ["Bits", `${of.get("bits")[0]}; full tables have ${of.get("bits")[1]}`],
     ["Most intervals at a node", greatest.length > 1 ? `${greatest[1]}, at ${greatest[0]}` : greatest.join(" ")],
-    ["Paths, beside the shortest", stretchInWords(distances > 0 ? walks / distances : 1)],
+    ["Paths, over the shortest", stretchInWords(distances > 0 ? walks / distances : 1)],
   ];
   if (worst && worst.length === 4) {
     const [from, to, walk, distance] = worst, times = Number(walk) / Number(distance);
     rows.push(["Worst detour", times === 1 ? "none" : `${from} to ${to}, ${walk} for ${distance} (${times.toFixed(1)} times)`]);
   }
   if (landmarks) rows.push(["Landmarks", landmarks.slice(0, 24).join(", ") + (landmarks.length > 24 ? ` and ${landmarks.length - 24} more` : "")]);
-  if (stretch) rows.push(["Longest path that is allowed", `${stretch[0]} percent of the distance`]);
+  if (stretch) rows.push(["Longest allowed path", `${stretch[0]} percent of the distance`]);
   if (most && most.length === 3) rows.push(["Most intervals at a link", `${most[2]}, at ${most[0]} to ${most[1]}`]);
   rows.push(["Deadlock", ring[0] === "cycle" ? `possible where full queues hold packets back: links can wait in a ring through ${ring.slice(1, 8).join(", ")}${ring.length > 8 ? ", \u2026" : ""}` : "none possible"]);
   return rows;

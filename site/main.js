@@ -180,7 +180,7 @@ async function begin() {
   try {
     await desk.begin();
   } catch (error) {
-    tell("this browser does not take the engine's module: " + error.message, "fault");
+    tell("this browser cannot run the engine's module: " + error.message, "fault");
     return;
   }
   await askKinds();

@@ -61,7 +61,7 @@ export function breakLines(graph, { down, epochs }, edge, kind, root) {
   if (isDown) next.delete(pair);
   else next.add(pair);
   const lines = [`${isDown ? "up" : "down"} ${graph.names[edge.u]} ${graph.names[edge.v]}`];
-  if (!joined(graph, next)) return [...lines, "# no plan joins all nodes now"];
+  if (!joined(graph, next)) return [...lines, "# no plan connects all nodes now"];
   return [...lines, `install ${kind} ${root}`, `learn ${epochs + 1}`];
 }
 

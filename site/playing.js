@@ -169,7 +169,7 @@ export class Player {
 
   drain(command) {
     this.step += 1;
-    this.told(command, "every packet goes on until none moves");
+    this.told(command, "all packets move until none can");
     this.carry(this.packets.filter(packet => packet.times.length > 0 && packet.ends === Infinity), true);
     for (const queues of [this.inboxes, this.channels, this.hands]) queues.clear();
   }

@@ -42,7 +42,7 @@ export async function save() {
 
 export async function copySaved() {
   const what = byId("save-what").value, text = await SAVED[what][1]();
-  if (text instanceof Blob) tell(`${what[0].toUpperCase()}${what.slice(1)}: Save makes a file of it; texts alone are copied.`, "note");
+  if (text instanceof Blob) tell(`${what[0].toUpperCase()}${what.slice(1)}: only texts can be copied; Save makes a file of it.`, "note");
   else if (text !== "") copy(text, what);
 }
 

@@ -32,7 +32,7 @@ test("landmarks are read from figures, and a node is of the nearest one", () => 
 
 test("figures say the landmarks and the bound", () => {
   const rows = new Map(figuresOf(STATS));
-  assert.deepEqual([rows.get("Landmarks"), rows.get("Longest path that is allowed")], ["c, a", "150 percent of the distance"]);
+  assert.deepEqual([rows.get("Landmarks"), rows.get("Longest allowed path")], ["c, a", "150 percent of the distance"]);
 });
 
 test("a row of a comparison chooses its bound", () => {

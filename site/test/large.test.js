@@ -31,7 +31,7 @@ test("figures have plain heads", () => {
   const rows = new Map(figuresOf("stats tree 14\nlinks 21\nstarts 26\nentries 182\ngreatest-row Pittsburgh 3\nwalks 795200\ndistances 420400\nworst Houston Atlanta 9400 1200\ncompactness Seattle PaloAlto 1\nbits 154 338\ndependencies acyclic\n"));
   assert.equal(rows.get("Worst detour"), "Houston to Atlanta, 9400 for 1200 (7.8 times)");
   assert.equal(rows.get("Deadlock"), "none possible");
-  assert.equal(rows.get("Paths, beside the shortest"), "1.89");
+  assert.equal(rows.get("Paths, over the shortest"), "1.89");
 });
 
 test("a comparison has a row for each kind and numbering", () => {

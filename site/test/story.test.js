@@ -1,5 +1,4 @@
 import assert from "node:assert/strict";
-import fs from "node:fs";
 import test from "node:test";
 import { readPlans, readTopology } from "../reading.js";
 import { STEPS, followed, loopAt, spaced, storyOf } from "../story.js";

@@ -23,7 +23,7 @@ test("a link that goes down is written with a plan, and mended again", () => {
   const now = { down: new Set(), epochs: 1 };
   assert.deepEqual(breakLines(ring, now, { u: 0, v: 1 }, "shortest", "a"), ["down a b", "install shortest a", "learn 2"]);
   assert.deepEqual(breakLines(ring, { down: new Set([pairOf(0, 1)]), epochs: 2 }, { u: 0, v: 1 }, "tree", "a"), ["up a b", "install tree a", "learn 3"]);
-  assert.deepEqual(breakLines(ring, { down: new Set([pairOf(0, 3)]), epochs: 2 }, { u: 0, v: 1 }, "tree", "a"), ["down a b", "# no plan joins all nodes now"]);
+  assert.deepEqual(breakLines(ring, { down: new Set([pairOf(0, 3)]), epochs: 2 }, { u: 0, v: 1 }, "tree", "a"), ["down a b", "# no plan connects all nodes now"]);
 });
 
 test("lines act at a step of the playback, and what comes after them stays", () => {

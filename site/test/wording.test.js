@@ -26,8 +26,8 @@ test("the first lines that can't be read", () => {
 });
 
 test("a sentence is said in the page's words, with a button", () => {
-  assert.deepEqual(inPage("4 words; an edge list has NODE NODE WEIGHT on a line (an adjacency list? try --format adjlist)"),
-    { said: "4 words; an edge list has NODE NODE WEIGHT on a line", action: { name: "Read it as an adjacency list", set: { format: "adjlist" } } });
+  assert.deepEqual(inPage("4 words; a line of an edge list is NODE NODE WEIGHT (is it an adjacency list? try --format adjlist)"),
+    { said: "4 words; a line of an edge list is NODE NODE WEIGHT", action: { name: "Read it as an adjacency list", set: { format: "adjlist" } } });
   assert.deepEqual(inPage("--root: no node 'Houston' in topology").action.set, { root: "" });
-  assert.equal(/python3|topology /.test(inPage("this looks like GML; python3 -m bentzolu convert topology makes an edge list of it").said), false);
+  assert.equal(/python3|topology /.test(inPage("this looks like GML; 'python3 -m bentzolu convert topology' makes an edge list of it").said), false);
 });
