@@ -6,7 +6,7 @@ usage() {
     cat <<'TEXT'
 Usage: ./install.sh PREFIX [--name NAME] [--uninstall]
 
-Installs the program that `(cd crates/route && rt run < stdin)` proved and built:
+Install the program that `(cd crates/route && rt run < stdin)` proved and built:
 
   PREFIX/bin/NAME                                       a script that runs the program, and for `agent`,
                                                         `controller` and `fleet` the Python package
@@ -16,12 +16,12 @@ Installs the program that `(cd crates/route && rt run < stdin)` proved and built
   PREFIX/share/zsh/site-functions/_NAME                 zsh
   PREFIX/share/fish/vendor_completions.d/NAME.fish      and fish
 
-  --name NAME   the name of the program, `bentzolu` by default; the Python package looks
-                for that. net-tools has another program `route`.
-  --uninstall   removes these six files again, if the manual page there is this program's
-  --help        this text
+  --name NAME   install the program by this name (default: `bentzolu`, which the Python
+                package looks for). net-tools has another program `route`.
+  --uninstall   remove these six files, if the manual page there is this program's
+  --help        print this text
 
-PREFIX is for instance /usr/local or ~/.local; folders that are missing are made.
+PREFIX is for instance /usr/local or ~/.local; missing folders are made.
 TEXT
 }
 
@@ -39,22 +39,22 @@ while [ $# -gt 0 ]; do
             usage
             exit 0 ;;
         --name)
-            [ $# -ge 2 ] || refuse '--name wants a name' 2
+            [ $# -ge 2 ] || refuse '--name needs a name' 2
             name=$2
             shift ;;
         --name=*) name=${1#--name=} ;;
         --uninstall) act=uninstall ;;
-        -*) refuse "there is no option $1; see ./install.sh --help" 2 ;;
+        -*) refuse "unknown option $1; see ./install.sh --help" 2 ;;
         *)
-            [ -z "$prefix" ] || refuse 'there is more than one PREFIX; see ./install.sh --help' 2
+            [ -z "$prefix" ] || refuse 'more than one PREFIX was given; see ./install.sh --help' 2
             prefix=$1
             [ -n "$prefix" ] || refuse 'the PREFIX is empty' 2 ;;
     esac
     shift
 done
-[ -n "$prefix" ] || refuse 'where to? Give a PREFIX, as /usr/local or ~/.local; see ./install.sh --help' 2
+[ -n "$prefix" ] || refuse 'no PREFIX was given, such as /usr/local or ~/.local; see ./install.sh --help' 2
 case $name in
-    '' | -* | *[!A-Za-z0-9_-]*) refuse "the name '$name' is not letters, digits, _ and -" 2 ;;
+    '' | -* | *[!A-Za-z0-9_-]*) refuse "the name '$name' has something other than letters, digits, _ and -" 2 ;;
 esac
 
 inner=$prefix/libexec/bentzolu
@@ -65,7 +65,7 @@ fish=$prefix/share/fish/vendor_completions.d/$name.fish
 
 if [ "$act" = uninstall ]; then
     grep -qs '^\.TH .* "Bentzolu[ "]' "$manual" ||
-        refuse "nothing is removed: there is no manual page of this program at $manual" 1
+        refuse "nothing was removed: $manual is not the manual page of this program" 1
     for file in "$prefix/bin/$name" "$inner/$name" "$bash" "$zsh" "$fish" "$manual"; do
         [ ! -e "$file" ] || { rm -f "$file" && echo "$file"; }
     done
@@ -76,7 +76,7 @@ fi
 here=$(cd "$(dirname "$0")" && pwd)
 program=$here/crates/route/out/route
 if [ ! -f "$program" ] || [ ! -x "$program" ]; then
-    refuse "the program is not built: there is no crates/route/out/route. First run (cd crates/route && rt run < stdin)" 1
+    refuse "the program is not built (crates/route/out/route): first run (cd crates/route && rt run < stdin)" 1
 fi
 
 # What the program calls itself by that name.
@@ -107,14 +107,14 @@ if [ "$here" = "$0" ] || [ ! -x "$here/../libexec/bentzolu/$name" ]; then
     here=${path%/*}
     name=${path##*/}
 fi
-case ${1:-} in
-    agent | controller | fleet)
+case "${1:-} ${2:-}" in
+    'agent '* | 'controller '* | 'fleet '* | 'xdp '[!t-]*)
         for python in python3 /usr/bin/python3; do
             if "$python" -c 'import importlib.util as it, sys; sys.exit(it.find_spec("bentzolu") is None)' 2> /dev/null; then
                 exec "$python" -m bentzolu "$@"
             fi
         done
-        echo "$name: '$1' wants the Python package, which is not installed here: run \`pip install ./python\` in the repository, or install the Debian package" >&2
+        echo "$name: '$1' needs the Python package, which is not installed: run \`pip install ./python\` in the repository, or install the Debian package" >&2
         exit 1 ;;
 esac
 exec "$here/../libexec/bentzolu/$name" "$@"
