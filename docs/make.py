@@ -94,7 +94,7 @@ def contract(path, call):
 def declaration(path, name):
     """A type's declaration, with its doc comment."""
     lines = specs.text_of(path).split("\n")
-    at = next(k for k, line in enumerate(lines) if re.match(rf"(?:pub )?(?:struct|enum|trait) {name}\b", line))
+    at = next(k for k, line in enumerate(lines) if re.match(rf"(?:pub(?:\(crate\))? )?(?:struct|enum|trait) {name}\b", line))
     end = at
     while not (lines[end] == "}" or lines[end].endswith((";", "{}")) and end == at):
         end += 1
@@ -122,22 +122,25 @@ def believed():
     start = place_of(call, crate)
     seen = specs.reached([start])
     order = specs.in_order(seen)
-    types = sorted({it[1:] for it in seen if it[0] == "type" and specs.declared_in(*it[1:])})
+    types = kinds_in(seen)
     rows, later, known = [(f"`{call}` of `{crate}`", headline, order, len(types))], [], set(seen)
     for call, crate, what in FURTHER:
         place = place_of(call, crate)
         more = specs.reached([place]) - known
         known |= more
         added = specs.in_order(more)
-        rows.append((f"`{call}` of `{crate}`", what, added, len({it for it in more if it[0] == "type" and specs.declared_in(*it[1:])})))
-        later.append((f"`{call}` of `{crate}`", crate, place, added))
+        rows.append((f"`{call}` of `{crate}`", what, added, len(kinds_in(more))))
+        later.append((f"`{call}` of `{crate}`", crate, place, added, more))
     out = ["# What must be believed", ""]
     out += [wrapped("This page is for those who want to read the headline and not trust a word around it. A "
                     "contract that is proved says no more than its definitions do, so these are what must be read. "
                     "The page has each definition that the contract of `play` names, and each that those name, lowest "
-                    "first and as they are in the sources. Names are followed page by page; a few may be more than is "
-                    "needed. Not listed are the views of the code's types (`model` in their sources), and the words of "
-                    "traits that a caller gives. What [PROMISES](PROMISES.md) calls *trusted* must be believed too."), ""]
+                    "first and as they are in the sources. A type of the code is followed into the types of its parts, and "
+                    "into the view by which contracts see it. Names are followed page by page; a few may be more than is "
+                    "needed. What [PROMISES](PROMISES.md) calls *trusted* must be believed too."), ""]
+    out += [wrapped("Each event of `play`, and each call here, may be refused for want of memory, at any time. No clause says "
+                    "that memory was really refused, since the kit has no word for that ([PROMISES](PROMISES.md), *Only "
+                    "tested*)."), ""]
     out += [wrapped("`docs/make.py` makes this page and `tests/names` holds it to the sources. Lines above 100 columns "
                     "are broken. Names that no page here defines are of the kit: `rt lemma NAME` shows them."), ""]
     out += ["| The contract of | says | pages | definitions | lines | types |", "|---|---|---|---|---|---|"]
@@ -152,8 +155,7 @@ def believed():
         out += [f"`{kind}` of `{crate}`, in [{os.path.basename(path)}](../{path}):", ""] + code(declaration(path, kind)) + [""]
     constants = sorted(it[1:] for it in seen if it[0] == "constant")
     out += [wrapped("Constants: " + "; ".join(f"`{name}` of `{crate}` is {value_of(crate, name)}" for crate, name in constants) + "."), ""]
-    out += [wrapped("What contracts see of a value of a type with a `Model`: " + "; ".join(
-        f"of `{kind}` ([{os.path.basename(path)}](../{path})) the `{value[3]}` that `{view[0][3]}` makes" for path, kind, value, view in specs.models() if value in seen and view) + "."), ""]
+    out += views(types, "")
     out += ["## Definitions, lowest first", ""]
     for page, definitions in order:
         count = specs.lines_of(definitions)
@@ -163,8 +165,12 @@ def believed():
         for definition in definitions:
             lines += [*quoted(definition), ""]
         out += code(lines[:-1]) + [""]
-    for who, crate, place, added in later:
+    for who, crate, place, added, more in later:
         out += [f"## What {who} adds", "", *code(contract(*place)), ""]
+        kinds = kinds_in(more)
+        if kinds:
+            out += [wrapped("Types of the code: " + ", ".join(f"`{kind}` of `{owner}`" for owner, kind in kinds) + "."), ""]
+        out += views(kinds, "further ") + traits(sorted(it[1:] for it in more if it[0] == "trait"))
         for page, definitions in added:
             names = [f"`{it.name}`" for it in definitions]
             if crate not in IN_FEW_WORDS:
@@ -199,6 +205,36 @@ def asked():
     for name, path, what in ASKED:
         body = re.search(rf"^(?:///[^\n]*\n)*(?:pub )?fn {name}\b.*?^}}", specs.text_of(path), flags=re.M | re.S)[0]
         out += [f"`{name}` in [{os.path.basename(path)}](../{path}), {what}:", "", *code(body.split("\n")), ""]
+    return out
+
+
+def kinds_in(seen):
+    """The types of the code among what is reached, by crate and name."""
+    return sorted(it[1:] for it in seen if it[0] == "type" and specs.declared_in(*it[1:]))
+
+
+def views(kinds, further):
+    """What contracts see of the values of those of these types that have a view."""
+    seen = [specs.models()[kind] for kind in kinds if kind in specs.models()]
+    if not seen:
+        return []
+    out = [wrapped(f"What contracts see of a value of a {further}type with a `Model`, and the view that makes it:"), ""]
+    for it in seen:
+        out.append(wrapped(f"`{it.kind}` of `{it.crate}` ([{os.path.basename(it.path)}](../{it.path})): `{it.value}`, by `{it.view}`", "- ", "  "))
+    return [*out, ""]
+
+
+def traits(found):
+    """Traits with words of their own, each with those that the types of the sources give it."""
+    out = []
+    for crate, name in found:
+        path = specs.declared_in(crate, name)
+        lines = declaration(path, name)
+        if not any(re.match(r" *ghost ", line) for line in lines):
+            continue
+        given = [line for _, head, words, _ in specs.instances(crate, name) for line in [f"{head}:", *(f"    {word}" for word in words)]]
+        out += [wrapped(f"The trait `{name}` of `{crate}`, in [{os.path.basename(path)}](../{path}), and the words that types of the sources give it:"), ""]
+        out += code([*lines, *([""] if given else []), *given]) + [""]
     return out
 
 
@@ -305,9 +341,9 @@ def readme(crate):
 
 
 def believed_pages():
-    """The pages of definitions that the page of what must be believed names."""
+    """The pages of definitions that the contracts of what must be believed name, types of the code left out."""
     starts = [place_of(call, crate) for call, crate, _ in [HEADLINE, *FURTHER]]
-    return {it[1:3] for it in specs.reached(starts) if it[0] == "definition"}
+    return {it[1:3] for it in specs.reached(starts, with_types=False) if it[0] == "definition"}
 
 
 def above():

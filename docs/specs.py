@@ -1,7 +1,6 @@
 """Reads the pages of definitions: crates/*/specs/*.antt, and which of them the contract of a call reaches."""
 import functools
 import glob
-import os
 import re
 
 HEAD = re.compile(r"^( *)(?:(?:abbrev|unfoldable)(?: pub)?|pub record|pub data) ([\w'-]+)")
@@ -115,8 +114,8 @@ def imports(tree, scope, aliases, path=()):
     if rest[0] == "declared":
         if rest[-1] == "TheVariants":
             aliases[called] = ("type", crate, rest[-2])
-        elif rest[1] == "TheConstants" and len(rest) > 2:
-            scope[called] = ("constant", crate, rest[2])
+        elif "TheConstants" in rest[:-1]:
+            scope[called] = ("constant", crate, rest[-1])
         elif "TheVariants" in rest:
             scope[called] = ("type", crate, rest[rest.index("TheVariants") - 1])
         else:
@@ -166,21 +165,98 @@ def contract_of(path, call):
     return "\n".join(clauses), scope, aliases
 
 
+class Model:
+    """What contracts see of a type's values: the source, the crate, the type, the definition or type that they see, the
+    view that makes it, and what both name."""
+
+    def __init__(self, path, kind, body, about):
+        self.path, self.crate, self.kind = path, path.split("/")[1], kind
+        scope, aliases = scope_of(about + body)
+        value, view = (re.search(rf"ghost {what} = \{{(.*?)\}};", body, flags=re.S) for what in ("Value", "view"))
+        self.value, self.view = (" ".join(found[1].split()) if found else "" for found in (value, view))
+        self.seen = names_in(self.value, scope, aliases) if self.view else []
+        self.names = [*self.seen, *names_in(self.view, scope, aliases)]
+
+
 @functools.cache
 def models():
-    """The types whose values contracts see as a definition's: the source, the type, the definition, what the view names."""
-    found = []
+    """The types whose values contracts see by a view, by crate and name."""
+    found = {}
     for path in sorted(glob.glob("crates/*/src/**/*.rt", recursive=True)):
         text = text_of(path)
         for kind, body in re.findall(r"^impl(?:<[^{]*?>)? Model for (\w+).*?\{(.*?)^\}", text, flags=re.M | re.S):
-            scope, aliases = scope_of(text)
-            value, view = (re.search(rf"ghost {what} = \{{(.*?)\}};", body, flags=re.S) for what in ("Value", "view"))
-            for what in names_in(value[1], scope, aliases) if value and view else ():
-                if what[0] == "definition":
-                    found.append((path, kind, what, tuple(names_in(view[1], scope, aliases))))
+            model = Model(path, kind, body, text)
+            if model.view:
+                found[model.crate, kind] = model
     return found
 
 
+@functools.cache
+def instances(crate, trait):
+    """The types of the sources that have a trait with words of its own, tests left out: the source, the head, the words."""
+    found = []
+    for path in sorted(glob.glob("crates/*/src/**/*.rt", recursive=True)):
+        if path.split("/")[1].endswith("_tests") or ("trait", crate, trait) not in types_of(path, trait):
+            continue
+        for head, body in re.findall(rf"^(impl(?:<[^{{]*?>)? {trait}\b[^{{]*? for [^{{]*?)\s*\{{(.*?)^\}}", text_of(path), flags=re.M | re.S):
+            words = re.findall(r"^    ghost (?!use\b)\w+ = \{.*?\};", body, flags=re.M | re.S)
+            found.append((path, " ".join(head.split()), [" ".join(word.split()) for word in words], body))
+    return found
+
+
+@functools.cache
+def declared():
+    """What each crate declares: by crate and name, whether that is a type or a trait, and the source."""
+    found = {}
+    for path in sorted(glob.glob("crates/*/src/**/*.rt", recursive=True)):
+        for what, name in re.findall(r"^(?:pub(?:\(crate\))? )?(struct|enum|trait) (\w+)", text_of(path), flags=re.M):
+            found.setdefault((path.split("/")[1], name), ("trait" if what == "trait" else "type", path))
+    return found
+
+
+@functools.cache
+def used_in(path):
+    """The crates from which a source has names, by name."""
+    found = {}
+    for tree in re.findall(r"^use ((?:ir_|page|route)[^;]*);", text_of(path), flags=re.M):
+        crate = re.match(r"\w+", tree)[0]
+        found.update({name: crate for name in re.findall(r"\b[A-Z]\w+", tree)})
+    return found
+
+
+def types_of(path, text):
+    """The types and traits of the crates that a piece of a source names."""
+    crate, used, found = path.split("/")[1], used_in(path), []
+    for name in re.findall(r"\b[A-Z]\w+", re.sub(r"//.*", "", text)):
+        place = (used.get(name, crate), name)
+        if place in declared():
+            found.append((declared()[place][0], *place))
+    return list(dict.fromkeys(found))
+
+
+def declaration_of(crate, name):
+    """The lines of a declaration, to its end."""
+    text = text_of(declared()[crate, name][1])
+    return re.search(rf"^(?:pub(?:\(crate\))? )?(?:struct|enum|trait) {name}\b.*?(?:^\}}|;$|\{{\}}$)", text, flags=re.M | re.S)[0]
+
+
+def named_by(what):
+    """What a type or a trait names: its declaration the types of its parts, and its model what contracts see of it; a trait
+    its own words, and those of each type that has it."""
+    kind, crate, name = what
+    if (crate, name) not in declared():
+        return []
+    path = declared()[crate, name][1]
+    scope, aliases = scope_of(text_of(path))
+    found = types_of(path, declaration_of(crate, name)) if kind == "type" else names_in(declaration_of(crate, name), scope, aliases)
+    if kind == "type" and (crate, name) in models():
+        found += models()[crate, name].names
+    for source, _, words, body in instances(crate, name) if kind == "trait" else ():
+        found += names_in(" ".join(words), *scope_of(text_of(source) + body))
+    return found
+
+
+@functools.cache
 def scope_of(text):
     """What a source imports of pages of definitions."""
     scope, aliases = {}, {}
@@ -189,12 +265,19 @@ def scope_of(text):
     return scope, aliases
 
 
-def reached(starts):
-    """What the contracts of these calls reach: definitions by page, types and constants. A definition that is what
-    contracts see of a type brings the view by which they see it."""
+def signature_of(path, call):
+    """What a call takes and answers, and the bounds on it."""
+    found = re.search(rf"^( *)(?:pub )?fn {call}\b.*?^\1(?=\{{)", text_of(path), flags=re.M | re.S)
+    return re.sub(r"^\s*(?:ensures|requires)\b.*", "", found[0] if found else "", flags=re.M | re.S)
+
+
+def reached(starts, with_types=True):
+    """What the contracts of these calls reach: definitions by page, types, traits and constants. A type brings the types of
+    its parts and the view by which contracts see it, and so does a definition that is what they see of a type; but for
+    `with_types` neither brings anything."""
     todo, seen = [], set()
     for path, call in starts:
-        todo += names_in(*contract_of(path, call))
+        todo += names_in(*contract_of(path, call)) + types_of(path, signature_of(path, call))
     while todo:
         what = todo.pop()
         if what[0] == "definition":
@@ -203,13 +286,17 @@ def reached(starts):
             if not known or known[:3] != what[:3]:
                 continue
             what = known
+        elif what[0] == "type":
+            what = (declared().get(what[1:], what)[0], *what[1:])
         if what in seen:
             continue
         seen.add(what)
         if what[0] == "definition":
             definition = page.definition(what[3])
             todo += names_in("\n".join(definition.lines) + ("\n" + definition.inner if definition.inner else ""), page.scope, page.aliases)
-            todo += [it for _, _, value, view in models() if value == what for it in view]
+            todo += [("type", *place) for place, model in models().items() if what in model.seen]
+        elif with_types and what[0] in ("type", "trait"):
+            todo += named_by(what)
     return seen
 
 
