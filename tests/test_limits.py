@@ -2,18 +2,22 @@
 from __future__ import annotations
 
 import re
+import resource
 from typing import List, Optional
 
 from support.checks import count
 from support.limits import (
-    CAPACITY, EPOCHS, GRAPH_EDGES, GRAPH_NODES, GREAT_SECONDS, INPUT_BYTES, NET_LINKS, NET_NODES, PACKETS, TOUR_NODES,
+    ALONE_NODES, CAPACITY, CHANGES, EPOCHS, GRAPH_EDGES, GRAPH_NODES, GREAT_SECONDS, INPUT_BYTES, NET_LINKS, NET_NODES, PACKETS, RESTAMPS,
+    TOUR_NODES,
 )
 from support.marks import alone, built, slow, within
 from support.networks import all_pairs, crossing, row_of, with_chords
-from support.route import Got, SOME, brief, expect, put, run
+from support.route import Got, SOME, alike, brief, expect, put, run
 from test_sizes import Chain
 
 pytestmark = [built]
+
+ROOM = 32 << 20  # bytes of addresses: records take 9 MB and changes 4, records of 16 times the room 134, whole boards 67
 
 
 def as_json(trace: str) -> bytes:
@@ -60,6 +64,24 @@ def test_limits_of_epochs() -> None:
         got = run([sub, net, put(f"limits/{sub}", "\n".join(script) + "\n")])
         expect(f"all epochs of the greatest network, {sub}", got, f"trace 1\n{rows}".encode(),
                f"refused {len(script)} EpochsFull\n".encode(), 0)
+
+
+def in_room(words: List[str]) -> Got:
+    """The same as `run` where the program may have few addresses, used or not."""
+    return run(words, preexec_fn=lambda: resource.setrlimit(resource.RLIMIT_AS, (ROOM, ROOM)))
+
+
+def test_limits_of_room() -> None:
+    """The most packets, with the most restamps, and the most changes of a board have the room that they can need, and not a multiple of it."""
+    names = [f"n{i}" for i in range(ALONE_NODES)]
+    ring = put("limits/ring", "".join(f"{name} {names[i - 1]}\n" for i, name in enumerate(names)))
+    injects = [f"inject {names[i]} {names[i - 1]}\n" for i in range(ALONE_NODES)]
+    rows = [f"{names[i]} {names[i - 1]} 1 delivered #1 {names[i]} {names[i - 1]}\n" for i in range(ALONE_NODES)]
+    script = put("limits/packets", ("".join(injects) + "drain\n") * (PACKETS // ALONE_NODES))
+    wanted = "trace 2\n" + "".join(f"{k} {rows[k % ALONE_NODES]}" for k in range(PACKETS))
+    expect("room of the most packets", in_room(["sim", "--restamps", str(RESTAMPS), ring, script]), wanted.encode(), b"", 0)
+    changes = put("limits/changes", "down n0 n1\nup n0 n1\n" * (CHANGES // 2) + "down n0 n1\n")
+    expect("room of the most changes", in_room(["sim", ring, changes]), b"trace 1\n", b"", 0)
 
 
 def figures_of_chain(nodes: int) -> List[str]:

@@ -20,8 +20,11 @@ import sys
 from typing import Any, List, Optional, Set, Tuple
 
 from support.checks import count, skip
+from support.limits import CAPACITY, NET_NODES, PACKETS
 from support.marks import alone, slow, within
+from support.networks import crossing
 from support.places import TOP, work
+from test_library import MOST_WORDS
 
 PAGE = "docs/lab.html"
 LAST = re.compile(r"(\d+) passed, (\d+) failed")
@@ -135,6 +138,20 @@ def test_cases() -> None:
     """The worked examples of the program, by the page's module."""
     if has_node():
         count_part("cases.js", ran("node", "site/test/cases.js", module(), timeout=1_200))
+
+
+@slow
+@within(1_250)
+def test_longest_trace() -> None:
+    """The longest trace, which is longer than any input, by the most words through the page's module; forty words are refused."""
+    if not has_node():
+        return
+    texts = dict(zip(("topology", "script", "trace"), crossing(NET_NODES, PACKETS, CAPACITY)))
+    files = [work(f"most.{name}") for name in texts]
+    for path, text in zip(files, texts.values()):
+        with open(path, "w", encoding="ascii") as file:
+            file.write(text)
+    count_part("most.js", ran("node", "site/test/most.js", module(), *files, *MOST_WORDS, "topology", "script", timeout=1_200))
 
 
 def try_clicks(name: str, browsers: List[str]) -> None:

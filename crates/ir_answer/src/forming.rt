@@ -56,7 +56,17 @@ fn shaped(alloc: Global, shape: Option<Shape>, text: String) -> Result<String, A
 {
     match shape {
         None => Ok(text),
-        Some(shape) => json_of(alloc, shape, text.as_bytes()),
+        Some(shape) => as_json(alloc, shape, text.as_bytes()),
+    }
+}
+
+/// The JSON of a text. It is refused where a growth of the JSON was.
+fn as_json(alloc: Global, shape: Shape, text: &[u8]) -> Result<String, AllocError>
+    ensures { IfOk result (λ json. string_bytes json ≡ json_text shape (lines text.now)) }
+{
+    match json_of(alloc, shape, text) {
+        Ok(json) => Ok(json),
+        Err(refusal) => Err(refusal.error()),
     }
 }
 
@@ -68,7 +78,7 @@ fn plan_json(alloc: Global, shape: Shape, text: PlanText) -> Result<String, Allo
     if !text.write(&mut whole) {
         return Err(AllocError);
     }
-    json_of(alloc, shape, whole.as_slice())
+    as_json(alloc, shape, whole.as_slice())
 }
 
 /// Writes a text, or its JSON, and answers whether all of it was taken.

@@ -6,7 +6,7 @@ ghost use Rattle.ir_json.specs.Signs.{sign_of, sign_text, first_word, part_text,
 
 use crate::words::{before_mark, behind_mark, push_goal, push_number, push_quoted};
 use ir_adjlist::scan::next_word;
-use std::alloc::AllocError;
+use ir_growth::{Refusal, push_char};
 
 /// What stands in place of a word.
 #[derive(Clone, Copy)]
@@ -53,7 +53,7 @@ pub fn first_word(line: &[u8]) -> (&[u8], &[u8])
 }
 
 /// Writes what stands in place of a sign for a word.
-fn push_shown(text: &mut String, sign: Sign, word: &[u8]) -> Result<(), AllocError>
+fn push_shown(text: &mut String, sign: Sign, word: &[u8]) -> Result<(), Refusal>
     ensures { OnOk result (string_bytes text.new ≡ string_bytes text.old ++ sign_text sign word.now) }
 {
     match sign {
@@ -67,7 +67,7 @@ fn push_shown(text: &mut String, sign: Sign, word: &[u8]) -> Result<(), AllocErr
 }
 
 /// Writes what a byte of a template comes to, and answers what of the line is left behind it.
-fn push_part<'a>(text: &mut String, byte: u8, line: &'a [u8]) -> Result<&'a [u8], AllocError>
+fn push_part<'a>(text: &mut String, byte: u8, line: &'a [u8]) -> Result<&'a [u8], Refusal>
     requires { byte < 128 }
     ensures text { OnOk result (string_bytes text.new ≡ string_bytes text.old
         ++ part_text byte (sign_of byte) (words_of line.now)) }
@@ -75,7 +75,7 @@ fn push_part<'a>(text: &mut String, byte: u8, line: &'a [u8]) -> Result<&'a [u8]
 {
     match sign_of(byte) {
         None => {
-            text.push(byte as char)?;
+            push_char(text, byte as char)?;
             Ok(line)
         }
         Some(sign) => {
@@ -91,7 +91,7 @@ pub fn push_filled<'a>(
     text: &mut String,
     template: &str,
     line: &'a [u8],
-) -> Result<&'a [u8], AllocError>
+) -> Result<&'a [u8], Refusal>
     requires { list_all (λ b. nat_lt b 128) template.now ≡ true }
     ensures text { OnOk result (string_bytes text.new ≡ string_bytes text.old
         ++ filled template.now (words_of line.now)) }

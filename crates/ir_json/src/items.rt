@@ -9,7 +9,7 @@ use crate::fill::{first_word, push_filled};
 use crate::form::Items;
 use crate::words::{push_number, push_quoted};
 use ir_adjlist::scan::next_word;
-use std::alloc::AllocError;
+use ir_growth::{Refusal, push_str};
 
 /// What stands before an item of a list.
 fn comma(is_first: bool) -> &'static str
@@ -19,13 +19,13 @@ fn comma(is_first: bool) -> &'static str
 }
 
 /// Writes each word as a string, with commas between.
-fn push_names(text: &mut String, line: &[u8]) -> Result<(), AllocError>
+fn push_names(text: &mut String, line: &[u8]) -> Result<(), Refusal>
     ensures { OnOk result (string_bytes text.new ≡ string_bytes text.old ++ names_from true (words_of line.now)) }
 {
     let mut rest = line;
     let mut is_first = true;
     while let Some((word, after)) = next_word(rest) {
-        text.push_str(comma(is_first))?;
+        push_str(text, comma(is_first))?;
         push_quoted(text, word)?;
         rest = after;
         is_first = false;
@@ -34,7 +34,7 @@ fn push_names(text: &mut String, line: &[u8]) -> Result<(), AllocError>
 }
 
 /// Writes each two words in a template, with commas between.
-fn push_pairs(text: &mut String, template: &str, line: &[u8]) -> Result<(), AllocError>
+fn push_pairs(text: &mut String, template: &str, line: &[u8]) -> Result<(), Refusal>
     requires { list_all (λ b. nat_lt b 128) template.now ≡ true }
     ensures { OnOk result (string_bytes text.new ≡ string_bytes text.old
         ++ pairs_from template.now true (words_of line.now)) }
@@ -42,7 +42,7 @@ fn push_pairs(text: &mut String, template: &str, line: &[u8]) -> Result<(), Allo
     let mut rest = line;
     let mut is_first = true;
     while let Some((_, after)) = next_word(rest) {
-        text.push_str(comma(is_first))?;
+        push_str(text, comma(is_first))?;
         push_filled(text, template, rest)?;
         rest = first_word(after).1;
         is_first = false;
@@ -71,38 +71,38 @@ fn between(before: &[u8], word: &[u8]) -> &'static str
 }
 
 /// Writes a mark, which opens a segment, or a hop.
-fn push_segment_word(text: &mut String, word: &[u8]) -> Result<(), AllocError>
+fn push_segment_word(text: &mut String, word: &[u8]) -> Result<(), Refusal>
     ensures { OnOk result (string_bytes text.new ≡ string_bytes text.old ++ segment_word word.now) }
 {
     if opens_segment(word) {
-        text.push_str("{\"epoch\":")?;
+        push_str(text, "{\"epoch\":")?;
         push_number(text, &word[1..])?;
-        text.push_str(",\"hops\":[")?;
+        push_str(text, ",\"hops\":[")?;
     } else {
         push_quoted(text, word)?;
     }
     Ok(())
 }
 
-fn push_segments(text: &mut String, line: &[u8]) -> Result<(), AllocError>
+fn push_segments(text: &mut String, line: &[u8]) -> Result<(), Refusal>
     ensures { OnOk result (string_bytes text.new ≡ string_bytes text.old ++ segments_from [] (words_of line.now)) }
 {
     let mut rest = line;
     let mut before: &[u8] = &[];
     while let Some((word, after)) = next_word(rest) {
-        text.push_str(between(before, word))?;
+        push_str(text, between(before, word))?;
         push_segment_word(text, word)?;
         rest = after;
         before = word;
     }
     if !before.is_empty() {
-        text.push_str("]}")?;
+        push_str(text, "]}")?;
     }
     Ok(())
 }
 
 /// Writes the words behind a line's front, and what ends the line behind a list.
-pub fn push_items(text: &mut String, items: Items, line: &[u8]) -> Result<(), AllocError>
+pub fn push_items(text: &mut String, items: Items, line: &[u8]) -> Result<(), Refusal>
     requires { is_ascii_further (further_held items) ≡ true }
     ensures { OnOk result (string_bytes text.new ≡ string_bytes text.old
         ++ items_text (further_held items) (words_of line.now)) }
@@ -113,5 +113,5 @@ pub fn push_items(text: &mut String, items: Items, line: &[u8]) -> Result<(), Al
         Items::Pairs(template) => push_pairs(text, template, line)?,
         Items::Segments => push_segments(text, line)?,
     }
-    text.push_str("]}")
+    push_str(text, "]}")
 }

@@ -9,9 +9,10 @@ use crate::form::{Form, form_of, lead};
 use crate::items::push_items;
 use crate::shape::Shape;
 use ir_adjlist::scan::{next_line, next_word};
-use std::alloc::{AllocError, Global};
+use ir_growth::{Refusal, push_str};
+use std::alloc::Global;
 
-fn push_form(text: &mut String, form: Form, line: &[u8]) -> Result<(), AllocError>
+fn push_form(text: &mut String, form: Form, line: &[u8]) -> Result<(), Refusal>
     requires { IsForm (form_held form) form }
     ensures { OnOk result (string_bytes text.new ≡ string_bytes text.old
         ++ form_text (form_held form) (words_of line.now)) }
@@ -20,15 +21,15 @@ fn push_form(text: &mut String, form: Form, line: &[u8]) -> Result<(), AllocErro
     push_items(text, form.items, rest)
 }
 
-fn push_line(text: &mut String, shape: Shape, place: usize, line: &[u8]) -> Result<(), AllocError>
+fn push_line(text: &mut String, shape: Shape, place: usize, line: &[u8]) -> Result<(), Refusal>
     ensures { OnOk result (string_bytes text.new ≡ string_bytes text.old ++ json_line shape place (words_of line.now)) }
 {
-    text.push_str(lead(shape, place, line))?;
+    push_str(text, lead(shape, place, line))?;
     push_form(text, form_of(shape, place, line), line)
 }
 
 /// Writes the lines of a text; one without a word is passed over.
-fn push_lines(json: &mut String, shape: Shape, text: &[u8]) -> Result<(), AllocError>
+fn push_lines(json: &mut String, shape: Shape, text: &[u8]) -> Result<(), Refusal>
     ensures { OnOk result (string_bytes json.new ≡ string_bytes json.old ++ lines_text shape 0 (lines text.now)) }
 {
     let mut rest = text;
@@ -47,11 +48,12 @@ fn push_lines(json: &mut String, shape: Shape, text: &[u8]) -> Result<(), AllocE
 /// The JSON of a text of this shape, a line for each line of the text that has a word. It has
 /// printable bytes of ASCII and line feeds alone. Refused for memory alone. Takes O(b), for a text
 /// of b bytes.
-pub fn json_of(alloc: Global, shape: Shape, text: &[u8]) -> Result<String, AllocError>
+pub fn json_of(alloc: Global, shape: Shape, text: &[u8]) -> Result<String, Refusal>
     ensures { IfOk result (λ json. string_bytes json ≡ json_text shape (lines text.now)) }
 {
-    let mut json = String::from_str(alloc, shape.opening())?;
+    let mut json = String::new(alloc);
+    push_str(&mut json, shape.opening())?;
     push_lines(&mut json, shape, text)?;
-    json.push_str(shape.closing())?;
+    push_str(&mut json, shape.closing())?;
     Ok(json)
 }

@@ -3,7 +3,7 @@ ghost use Rattle.std.specs.Prelude.{◌≡◌, ◌<◌, ◌≤◌, ◌++◌, not
 ghost use Rattle.std.specs.List.{list_all, prefix_len};
 ghost use Rattle.ir_json.specs.Words.{hex_digit, json_byte, json_escaped, json_string, is_digit_byte, is_whole_number, json_number, goal, before_mark, behind_mark};
 
-use std::alloc::AllocError;
+use ir_growth::{Refusal, push_char, push_str};
 
 /// A digit of base 16.
 fn hex_digit(n: u8) -> char
@@ -19,31 +19,31 @@ fn hex_digit(n: u8) -> char
 }
 
 /// Writes a byte of a string.
-fn push_escaped_byte(text: &mut String, byte: u8) -> Result<(), AllocError>
+fn push_escaped_byte(text: &mut String, byte: u8) -> Result<(), Refusal>
     ensures { OnOk result (string_bytes text.new ≡ string_bytes text.old ++ json_byte byte) }
 {
     if byte == b'"' || byte == b'\\' {
-        text.push('\\')?;
-        text.push(byte as char)?;
+        push_char(text, '\\')?;
+        push_char(text, byte as char)?;
     } else if byte >= b' ' && byte <= b'~' {
-        text.push(byte as char)?;
+        push_char(text, byte as char)?;
     } else {
-        text.push_str("\\u00")?;
-        text.push(hex_digit(byte / 16))?;
-        text.push(hex_digit(byte % 16))?;
+        push_str(text, "\\u00")?;
+        push_char(text, hex_digit(byte / 16))?;
+        push_char(text, hex_digit(byte % 16))?;
     }
     Ok(())
 }
 
 /// Writes a word as a string.
-pub fn push_quoted(text: &mut String, word: &[u8]) -> Result<(), AllocError>
+pub fn push_quoted(text: &mut String, word: &[u8]) -> Result<(), Refusal>
     ensures { OnOk result (string_bytes text.new ≡ string_bytes text.old ++ json_string word.now) }
 {
-    text.push_str("\"")?;
+    push_str(text, "\"")?;
     for byte in word {
         push_escaped_byte(text, *byte)?;
     }
-    text.push_str("\"")
+    push_str(text, "\"")
 }
 
 fn is_digit_byte(byte: u8) -> bool
@@ -59,24 +59,24 @@ fn all_digits(word: &[u8]) -> bool
 }
 
 /// Writes a word as a number; what is none as null.
-pub fn push_number(text: &mut String, word: &[u8]) -> Result<(), AllocError>
+pub fn push_number(text: &mut String, word: &[u8]) -> Result<(), Refusal>
     ensures { OnOk result (string_bytes text.new ≡ string_bytes text.old ++ json_number word.now) }
 {
     if word.is_empty() || !all_digits(word) {
-        return text.push_str("null");
+        return push_str(text, "null");
     }
     for byte in word {
-        text.push(*byte as char)?;
+        push_char(text, *byte as char)?;
     }
     Ok(())
 }
 
 /// Writes a word as a string; `#`, which no name holds, as null.
-pub fn push_goal(text: &mut String, word: &[u8]) -> Result<(), AllocError>
+pub fn push_goal(text: &mut String, word: &[u8]) -> Result<(), Refusal>
     ensures { OnOk result (string_bytes text.new ≡ string_bytes text.old ++ goal word.now) }
 {
     if is(word, "#") {
-        return text.push_str("null");
+        return push_str(text, "null");
     }
     push_quoted(text, word)
 }

@@ -30,6 +30,7 @@ pub use laws::{
     labels_are_determined, tour_has_no_more_starts, tour_is_determined, ways_of_a_landmark_plan,
 };
 pub use making::made_in_threads;
+pub use patience::Patience;
 pub use plan::Plan;
 pub use rows::row_of_node;
 pub use tour::{LabelOrder, is_of_shortest_ways, plan_over_tour, tour_of};

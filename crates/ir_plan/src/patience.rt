@@ -1,18 +1,19 @@
-//! For how long the lanes are left alone once a search in them found nothing.
+//! For how long the lanes are left alone after a search in them found nothing.
 
 use std::sync::atomic::{AtomicU64, Ordering};
 
-/// How many batches go without the lanes. Threads share it. Nothing is promised of it, and no row depends on it.
+/// How many batches go without the lanes. Threads share it. No row depends on it; what it answers is tested, and nothing
+/// is proved of it.
 #[derive(Drop)]
 pub struct Patience {
     /// How many batches from now on.
     left: AtomicU64,
-    /// How many behind the next one that finds nothing.
+    /// How many after the next one that finds nothing.
     next: AtomicU64,
 }
 
 impl Patience {
-    /// None so far.
+    /// No batch has failed so far: the lanes are tried.
     pub fn new() -> Patience {
         Patience {
             left: AtomicU64::new(0),

@@ -6,6 +6,7 @@ ghost use Rattle.ir_lanes.specs.{Outward.AreOutwardLanes, Marks.ArePortMarks};
 
 use crate::networks::{HEAVY, RING, topology_of};
 use ir_lanes::{OutwardLanes, PortMarks, sixteen_from, words_to};
+use ir_plan::Patience;
 use ir_tables::Topology;
 use std::alloc::Global;
 
@@ -237,4 +238,32 @@ fn nothing_to_a_node_apart(rt: HostRuntime) {
         None => false,
     };
     assert!(rt; is_so);
+}
+
+/// Whether the lanes are left alone for so many batches, and tried for the next one.
+fn waits_for(patience: &Patience, batches: u64) -> bool {
+    let mut waits = true;
+    for _ in 0..batches {
+        waits &= !patience.tries();
+    }
+    waits && patience.tries()
+}
+
+/// The lanes are tried at first, and go on being tried where they find something. After one, two
+/// and three batches in a row without an answer they are left alone for 1, 2 and 4 batches.
+#[test]
+fn lanes_are_tried(rt: HostRuntime) {
+    let patience = Patience::new();
+    let at_first = patience.tries();
+    patience.learns(true);
+    let found = patience.tries();
+    patience.learns(false);
+    let once = waits_for(&patience, 1);
+    patience.learns(false);
+    let twice = waits_for(&patience, 2);
+    patience.learns(false);
+    let thrice = waits_for(&patience, 4);
+    patience.learns(true);
+    let again = patience.tries();
+    assert!(rt; at_first && found && once && twice && thrice && again);
 }
