@@ -209,7 +209,7 @@ def installed_in(top: str, *words_: str) -> Got:
     return done.stdout, done.stderr, done.returncode
 
 
-INSTALLED = ("bin/{}", "libexec/bentzolu/{}", "share/man/man1/{}.1", "share/bash-completion/completions/{}", "share/zsh/site-functions/_{}",
+INSTALLED = ("bin/{}", "libexec/bentzolu/{}", "libexec/bentzolu/{}.awk", "libexec/bentzolu/{}.families.py", "libexec/bentzolu/{}.built", "share/man/man1/{}.1", "share/bash-completion/completions/{}", "share/zsh/site-functions/_{}",
              "share/fish/vendor_completions.d/{}.fish")
 
 
@@ -242,10 +242,12 @@ def test_installed() -> None:
     prefix = os.path.join(top, "a prefix")
     for name, words_ in (("bentzolu", []), ("route", ["--name", "route"]), ("other-one", ["--name=other-one"])):
         files = [form.format(name) for form in INSTALLED]
-        written = "".join(f"{prefix}/{file}\n" for file in files).encode()
+        shared = ["share/doc/bentzolu/lab.html", "share/doc/bentzolu/examples"]
+        written = "".join(f"{prefix}/{file}\n" for file in [*files, *shared]).encode()
         for turn in ("once", "again"):
             expect(f"installed as {name}, {turn}", installed_in(top, prefix, *words_), written, b"", 0)
-        count(f"files of {name}", None if files_in(prefix) == sorted(files) else str(files_in(prefix)))
+        beside = [file for file in files_in(prefix) if not file.startswith("share/doc/bentzolu/examples/")]
+        count(f"files of {name}", None if beside == sorted([*files, shared[0]]) else str(beside))
         got = run(["--version"], program=os.path.join(prefix, "bin", name))
         expect(f"{name} --version", got, SOME, b"", 0)
         link = os.path.join(top, "link")
@@ -257,8 +259,9 @@ def test_installed() -> None:
             page = file.read()
         count(f"the manual page of {name}", None if f".TH {name.upper()} 1" in page and f"\\fB{name} plan" in page else "not of that name")
         other = put(os.path.join(prefix, "bin/other"), "")
-        gone = b"".join(f"{prefix}/{form.format(name)}\n".encode() for form in (*INSTALLED[:2], *INSTALLED[3:], INSTALLED[2]))
-        expect(f"{name} removed", installed_in(top, "--uninstall", prefix, *words_), gone, b"", 0)
+        removed = installed_in(top, "--uninstall", prefix, *words_)
+        expect(f"{name} removed", (b"".join(sorted(removed[0].splitlines(True))), *removed[1:]), b"".join(sorted(written.splitlines(True))), b"", 0)
+        count(f"no folder is left of {name}", None if os.listdir(prefix) == ["bin"] else str(os.listdir(prefix)))
         count(f"files behind {name}", None if files_in(prefix) == ["bin/other"] else str(files_in(prefix)))
         expect(f"{name} removed again", installed_in(top, "--uninstall", prefix, *words_), b"", SOME, 1)
         os.remove(work(other))

@@ -1,11 +1,11 @@
-"""`python3 -m bentzolu COMMAND`: a network in another format as an edge list of `route`, its plan, its figures, or a lab."""
+"""`python3 -m bentzolu COMMAND`: a network in another format as an edge list, its plan, its figures, a new network, or a lab."""
 from __future__ import annotations
 
 import argparse
 import sys
 from typing import Any, Callable, Sequence
 
-from . import __version__, commands, fleet_words, inside, lab, program, sweep_words, xdp_words
+from . import __version__, commands, families, fleet_words, inside, lab, program, sweep_words, xdp_words
 from .convert import READERS
 from .errors import BentzoluError
 from .options import add_detour
@@ -42,6 +42,7 @@ COMMANDS: list[tuple[str, str, Callable[[argparse.ArgumentParser], None]]] = [
     ("convert", "convert a network in another format to a weighted edge list", add_convert),
     ("plan", "print the labels and intervals of a network in any format that convert reads", add_shown),
     ("stats", "print the figures of the plan of a network in any format that convert reads", add_shown),
+    ("generate", "print a network of a family: a grid, a fat tree, a random network", families.add_words),
 ]
 ABOUT = {
     "convert": "Convert a network in another format to a weighted edge list, which the program reads with --format edgelist. "
@@ -80,7 +81,10 @@ def words() -> argparse.ArgumentParser:
 
 
 def main(arguments: Sequence[str] | None = None) -> int:
-    found = words().parse_args(arguments)
+    given = sys.argv[1:] if arguments is None else list(arguments)
+    if given[:1] == ["generate"]:
+        return families.main(given[1:])
+    found = words().parse_args(given)
     try:
         return int(found.act(found) or 0)
     except (BentzoluError, OSError) as error:

@@ -36,7 +36,7 @@ PARTS = {
     "lab": ["lab"],
     "library": ["library", "release"],
     "page": ["page"],
-    "program": ["examples", "inputs", "words", "outputs", "called", "documents", "plans", "figures", "circles", "live",
+    "program": ["examples", "inputs", "words", "outputs", "called", "documents", "front", "plans", "figures", "circles", "live",
                 "whole", "sizes", "limits", "explained", "explained_inputs", "landmarks",
                 "terminals"],
     "plane": ["plane"],
