@@ -46,7 +46,7 @@ function drawTour() {
   const svg = byId("tour-drawing"), { graph } = scene, width = Math.max(430, Math.min(1000, svg.parentNode.clientWidth));
   const names = { ...graph, names: graph.names.map(spaced) };
   scene.width = width;
-  scene.drawing = placed(names, () => hopsBetween(graph), width, scene.given, { room: 15, above: 26, perLine: 6 });
+  scene.drawing = placed(names, () => hopsBetween(graph), width, scene.given, { room: 23, above: 26, perLine: 6 });
   const { sheet, points, names: at } = scene.drawing;
   svg.textContent = "";
   svg.setAttribute("viewBox", `0 0 ${sheet.width} ${sheet.height}`);
@@ -91,8 +91,15 @@ function showLabels(group, labels, isChanged) {
   });
 }
 
+// How far along a link its interval stands: near the node, where no packet covers it.
+function clearPart(p, q, parcels) {
+  const far = Math.hypot(q.x - p.x, q.y - p.y), parts = [56, 74, 92].map(it => Math.min(0.5, it / far));
+  const isClear = part => parcels.every(it => Math.abs(p.x + (q.x - p.x) * part - it.x) > 44 || Math.abs(p.y + (q.y - p.y) * part - it.y + 29) > 24);
+  return parts.find(isClear) ?? parts[0];
+}
+
 // The intervals of a node, each on the link that serves it.
-function showIntervals({ ring, lit }) {
+function showIntervals({ ring, lit, packets }) {
   scene.ring.textContent = "";
   for (const line of scene.links.values()) line.setAttribute("class", "link");
   if (!ring) return;
@@ -100,7 +107,7 @@ function showIntervals({ ring, lit }) {
   for (const it of row.intervals) said.set(it.to, [...said.get(it.to) || [], interval(it)]);
   const p = points[ring.node];
   for (const [to, texts] of said) {
-    const q = points[to], far = Math.hypot(q.x - p.x, q.y - p.y), part = Math.min(0.5, 56 / far);
+    const q = points[to], part = clearPart(p, q, packets.map(packet => points[packet.node]));
     const isLit = lit && lit.u === ring.node && lit.v === to;
     if (lit && !isLit && ring.epoch === 2) continue;
     scene.links.get(pairOf(ring.node, to)).setAttribute("class", `link serves epoch-${ring.epoch}` + (isLit ? " lit" : ""));

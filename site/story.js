@@ -73,7 +73,12 @@ function tellLabels(story) {
     story.beat("Each node gets a number, its label. Labels follow the links, so that nodes nearby have numbers nearby.",
       { labels: story.of([0]).map((labels, u) => some.has(u) ? labels : []), isShort: true });
   }
-  story.beat(`${order.length} nodes, labels 0 to ${order.length - 1}. A packet carries one number: the label of its destination.`);
+  story.beat(`${order.length} nodes, labels 0 to ${order.length - 1}. A label is a node's address: a packet carries the label of the node that it is for.`);
+}
+
+// Words with commas and an `and`.
+function listed(words) {
+  return words.length < 2 ? words.join("") : `${words.slice(0, -1).join(", ")} and ${words.at(-1)}`;
 }
 
 // The labels of an interval in words: 6 to 13 for [6,0).
@@ -86,12 +91,12 @@ function tellIntervals(story) {
   const { graph, plans, names } = story, count = graph.names.length, way = followed(u => plans[0].rows[u], story.source, story.labels[0], count);
   const nodes = [way[1].node, way.find(hop => plans[0].rows[hop.node].intervals.length > 2)?.node ?? way[2].node];
   nodes.forEach((node, i) => {
-    const said = plans[0].rows[node].intervals.map(it => `${labelsOf(it, count)} to ${names[it.to]}`);
-    story.beat(`${names[node]} sends ${said.join(", ")}.` + (i === 0 ? ` ${interval(plans[0].rows[node].intervals.at(-1))} means from ${plans[0].rows[node].intervals.at(-1).start} up to but not including ${plans[0].rows[node].intervals.at(-1).end}; after ${count - 1} comes 0.` : ""),
-      { ring: { node, epoch: 1 } });
+    const row = plans[0].rows[node], last = row.intervals.at(-1), said = row.intervals.map(it => `${labelsOf(it, count)} to ${names[it.to]}`), ring = { node, epoch: 1 };
+    story.beat((i === 0 ? "An interval is a range of labels, written on the link that serves it. " : "") + `${names[node]} sends ${listed(said)}.`, { ring });
+    if (i === 0) story.beat(`So ${interval(last)} is ${labelsOf(last, count)}: from ${last.start} up to, but not including, ${last.end}. After ${count - 1} comes 0.`, { ring });
   });
   const intervals = plans[0].rows.reduce((sum, row) => sum + row.intervals.length, 0);
-  story.beat(`An interval of labels for each link in use: ${intervals} in the whole network. Tables with a row for each destination would have ${count * (count - 1)}.`);
+  story.beat(`That is what intervals are for: ${intervals} of them lead to every node from everywhere. Tables with a row for each destination would have ${count * (count - 1)} rows.`);
 }
 
 function tellPacket(story) {
@@ -111,19 +116,19 @@ function tellChange(story, at) {
   const first = followed(u => plans[0].rows[u], source, labels[0], count), second = followed(u => plans[1].rows[u], source, labels[1], count);
   const early = first.slice(0, at);
   story.travel(early, { id: 0, epoch: 1, label: labels[0] }, () => 1, (hop, i) => i === 0
-    ? `Packet 0 sets out again for ${names[dest]}, stamped with epoch 1, the blue numbers.`
+    ? `Packet 0 sets out again for ${names[dest]}. It is stamped with epoch 1: the blue numbers and their intervals.`
     : capital(`packet 0: ${story.found(hop, labels[0], " of epoch 1")}.`, true));
   const trailOf = (hops, epoch) => hops.slice(1).map((hop, i) => ({ u: hops[i].node, v: hop.node, epoch }));
   const both = story.of([0, 1]), still = { id: 0, epoch: 1, label: labels[0], node: early.at(-1).node };
-  story.beat("Shorter paths are wanted, so all nodes are numbered anew: epoch 2, the orange numbers. Each node keeps both sets.",
+  story.beat("Shorter paths are wanted, so all nodes are numbered anew. A numbering with its intervals is an epoch: 1 is blue, 2 is orange. For a while each node keeps both.",
     { labels: both, packets: [still], trail: trailOf(early, 1) });
   const rounds = Math.max(first.length - at, second.length);
   for (let i = 0; i < rounds; i++) {
     const one = Math.min(at + i, first.length - 1), two = Math.min(i, second.length - 1), hop = first[one], other = second[two];
     const isLast = i === rounds - 1, seen = i === 0 || !hop.found ? other : hop;
     const said = [[0, 1, hop, at + i < first.length], [1, 2, other, i < second.length]].filter(it => it[3]).map(([id, epoch, it]) =>
-      it.found ? `Packet ${id}: ${story.found(it, labels[epoch - 1], ` of epoch ${epoch}`)}.` : `Packet ${id} has arrived.`);
-    story.beat(isLast ? "Both have arrived. Each node forwards a packet by the numbers of the packet's own epoch alone. That is proved of Bentzolu." : said.join(" "), {
+      it.found ? `Packet ${id}${id === 1 && i === 0 ? " sets out" : ""}: ${story.found(it, labels[epoch - 1], ` of epoch ${epoch}`)}.` : `Packet ${id} has arrived.`);
+    story.beat(isLast ? "Both have arrived. That is what epochs are for: a packet keeps to the numbers that it set out with, at every node. That is proved of Bentzolu." : said.join(" "), {
       labels: both, trail: [...trailOf(first.slice(0, one + 1), 1), ...trailOf(second.slice(0, two + 1), 2)],
       packets: [{ ...still, node: hop.node }, { id: 1, epoch: 2, label: labels[1], node: other.node }],
       ring: seen.found ? { node: seen.node, epoch: seen === hop ? 1 : 2 } : null, lit: seen.found && { u: seen.node, v: seen.found.to, found: seen.found },

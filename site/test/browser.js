@@ -58,7 +58,7 @@ export class Browser {
       setTimeout(() => lost(new Error("the browser did not start")), MOST * 1000).unref();
     });
     await it.connect(port);
-    await it.send("Emulation.setDeviceMetricsOverride", { width, height, deviceScaleFactor: 1, mobile: false });
+    await it.size(width, height);
     return it;
   }
 
@@ -150,6 +150,28 @@ export class Browser {
     await this.send("Input.dispatchMouseEvent", { type: "mouseMoved", x, y });
     await this.send("Input.dispatchMouseEvent", { type: "mousePressed", ...mouse });
     await this.send("Input.dispatchMouseEvent", { type: "mouseReleased", ...mouse });
+  }
+
+  // The left button down at a point, moved by so much in steps, and up.
+  async drag(x, y, ...steps) {
+    await this.send("Input.dispatchMouseEvent", { type: "mousePressed", x, y, button: "left", clickCount: 1 });
+    for (const [dx, dy] of steps) await this.send("Input.dispatchMouseEvent", { type: "mouseMoved", x: x + dx, y: y + dy, button: "left", buttons: 1 });
+    const [dx, dy] = steps.at(-1);
+    await this.send("Input.dispatchMouseEvent", { type: "mouseReleased", x: x + dx, y: y + dy, button: "left", clickCount: 1 });
+  }
+
+  async wheel(x, y, deltaY) {
+    await this.send("Input.dispatchMouseEvent", { type: "mouseWheel", x, y, deltaX: 0, deltaY });
+  }
+
+  async size(width, height) {
+    await this.send("Emulation.setDeviceMetricsOverride", { width, height, deviceScaleFactor: 1, mobile: false });
+  }
+
+  // A page in the light or in the dark: this one, or another that has to be closed.
+  async inScheme(scheme) {
+    await this.send("Emulation.setEmulatedMedia", { features: scheme ? [{ name: "prefers-color-scheme", value: scheme }] : [] });
+    return this;
   }
 
   async moveTo(x, y) {

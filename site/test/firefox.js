@@ -5,6 +5,7 @@ import os from "node:os";
 import path from "node:path";
 import { Browser, MOST } from "./browser.js";
 
+const SCHEMES = { dark: 0, light: 1 }; // as a preference of Firefox has them
 const KEYS = { Enter: "\ue007", Home: "\ue011", End: "\ue010", ArrowLeft: "\ue012", ArrowUp: "\ue013", ArrowRight: "\ue014", ArrowDown: "\ue015", Tab: "\ue004" };
 
 // A value as BiDi writes it.
@@ -15,10 +16,12 @@ function plain({ type, value }) {
 }
 
 export class Firefox extends Browser {
-  static async open(url, width = 1400, height = 1000) {
+  static async open(url, width = 1400, height = 1000, scheme = "") {
     const it = new Firefox();
     it.profile = fs.mkdtempSync(path.join(os.tmpdir(), "lab-"));
     it.faults = [];
+    it.url = url;
+    if (scheme) fs.writeFileSync(path.join(it.profile, "user.js"), `user_pref("layout.css.prefers-color-scheme.content-override", ${SCHEMES[scheme]});\n`);
     it.process = spawn(process.env.FIREFOX || "firefox-esr", ["--headless", "--no-remote", "--remote-debugging-port=0", "--profile", it.profile, "about:blank"], { stdio: ["ignore", "ignore", "pipe"] });
     const port = await new Promise((found, lost) => {
       let said = "";
@@ -28,15 +31,16 @@ export class Firefox extends Browser {
     });
     await it.join(new URL(`ws://127.0.0.1:${port}/session`));
     await it.send("session.new", { capabilities: {} });
-    await it.send("session.subscribe", { events: ["log.entryAdded"] });
+    await it.send("session.subscribe", { events: ["log.entryAdded", "network.beforeRequestSent"] });
     it.context = (await it.send("browsingContext.getTree", {})).contexts[0].context;
-    await it.send("browsingContext.setViewport", { context: it.context, viewport: { width, height } });
+    await it.size(width, height);
     await it.send("browsingContext.navigate", { context: it.context, url, wait: "complete" });
     return it;
   }
 
   told(message) {
     if (message.method === "log.entryAdded" && message.params.level === "error") this.faults.push(message.params.text);
+    else if (message.method === "network.beforeRequestSent" && !/^(file|data|blob|about|resource|chrome):/.test(message.params.request.url)) this.faults.push("a request: " + message.params.request.url);
     else if (message.id) super.told(message.type === "error" ? { id: message.id, error: { message: `${message.error}: ${message.message}` } } : message);
   }
 
@@ -48,7 +52,35 @@ export class Firefox extends Browser {
 
   async clickAt(x, y) {
     const at = { x: Math.round(x), y: Math.round(y) };
-    await this.send("input.performActions", { context: this.context, actions: [{ type: "pointer", id: "mouse", actions: [{ type: "pointerMove", ...at }, { type: "pointerDown", button: 0 }, { type: "pointerUp", button: 0 }] }] });
+    await this.pointer({ type: "pointerMove", ...at }, { type: "pointerDown", button: 0 }, { type: "pointerUp", button: 0 });
+  }
+
+  async pointer(...actions) {
+    await this.send("input.performActions", { context: this.context, actions: [{ type: "pointer", id: "mouse", actions }] });
+  }
+
+  async drag(x, y, ...steps) {
+    const to = (dx, dy) => ({ type: "pointerMove", x: Math.round(x + dx), y: Math.round(y + dy), duration: 0 });
+    await this.pointer(to(0, 0), { type: "pointerDown", button: 0 }, ...steps.map(([dx, dy]) => to(dx, dy)), { type: "pointerUp", button: 0 });
+  }
+
+  async moveTo(x, y) {
+    await this.pointer({ type: "pointerMove", x: Math.round(x), y: Math.round(y), duration: 0 });
+  }
+
+  async wheel(x, y, deltaY) {
+    await this.send("input.performActions", { context: this.context, actions: [{ type: "wheel", id: "wheel", actions: [{ type: "scroll", x: Math.round(x), y: Math.round(y), deltaX: 0, deltaY }] }] });
+  }
+
+  async size(width, height) {
+    await this.send("browsingContext.setViewport", { context: this.context, viewport: { width, height } });
+  }
+
+  async inScheme(scheme) {
+    if (!scheme) return this;
+    const other = await Firefox.open(this.url, 1280, 900, scheme);
+    await other.until("document.documentElement.dataset.ready === 'yes'");
+    return other;
   }
 
   async key(key) {

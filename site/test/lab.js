@@ -49,6 +49,8 @@ async function tryTour(page, url) {
   await tour.click("#tour-play");
   const stopped = await at();
   same("it pauses", [await at() === stopped, await textOf(tour, "tour-play")], [true, "Play"]);
+  const said = await tour.value("(() => { const said = []; for (let beat = 0; beat < 40; beat++) { lab.store.set({ beat }); said.push(document.getElementById('tour-caption').textContent); } return said.join(' '); })()");
+  for (const what of ["A label is a node's address", "An interval is a range of labels", "That is what intervals are for", "A numbering with its intervals is an epoch", "That is what epochs are for"]) same("it says: " + what, said.includes(what), true);
   await tour.click("#tour-step-2");
   await tour.click("#tour-next");
   same("a packet is followed label by label", await caption(), "At Boulder, 10 is in [6,0), so on to Lincoln.");
@@ -86,6 +88,11 @@ async function tryPlan(page) {
   await page.key("ArrowDown");
   same("the row of a node", await textOf(page, "row"), "b 1: [2,3) d  [3,4) e  [4,2) a");
   same("its arcs", await page.value("document.querySelectorAll('#circle .arc').length"), 3);
+  same("a table beside the circle", await shown(page, "#ports td:nth-child(2)"), ["a", "d", "e"]);
+  await page.value("document.getElementById('circle').scrollIntoView({ block: 'center' })");
+  const lit = "document.querySelectorAll('#drawing .lit-link').length", [x, y] = await page.value("(() => { const arc = document.querySelector('#circle .arc'), at = arc.getPointAtLength(arc.getTotalLength() / 2).matrixTransform(arc.getScreenCTM()); return [at.x, at.y]; })()");
+  await page.moveTo(x, y);
+  same("a pointer on an arc lights its link", await page.until(lit + " > 0"), true);
   await page.value("document.getElementById('kind').focus()");
   await page.key("ArrowDown");
   await settled(page);
@@ -212,6 +219,15 @@ async function tryRelabelling(page) {
   same("the playback comes to its end", await page.until("!lab.store.now.isPlaying && lab.store.now.step === lab.store.now.last"), true);
   same("the link is down", await page.value("document.querySelectorAll('#drawing .link.down').length"), 1);
   same("none is under way at the end", (await shown(page, "#packets td:last-child")).filter(it => /^at |not yet/.test(it)), []);
+  await page.type("#topology", "p q 1\nq r 1\nr s 1\ns p 1\n");
+  await settled(page);
+  await page.click("#tab-run");
+  await page.click("#first");
+  await page.click("#break");
+  await settled(page);
+  await page.click("#last");
+  await settled(page);
+  same("the first link broken: epoch 2 has its plan", await page.value("[lab.store.now.plans.length, lab.store.now.plans[1].rows.length]"), [2, 4]);
   await example(page, 3);
   same("a network without a script gets one", await page.value("lab.store.now.last > 4 && !document.getElementById('play').disabled"), true);
   await goTo(page, 1);
@@ -234,11 +250,9 @@ async function tryLarge(page) {
   const before = await page.value("lab.store.now.sight");
   await page.value("document.getElementById('drawing').scrollIntoView({ block: 'center' })");
   const [x, y] = await page.value("(() => { const box = document.getElementById('drawing').parentNode.getBoundingClientRect(); return [box.left + 20, box.top + 20]; })()");
-  await page.send("Input.dispatchMouseEvent", { type: "mousePressed", x, y, button: "left", clickCount: 1 });
-  for (const by of [20, 60, 100]) await page.send("Input.dispatchMouseEvent", { type: "mouseMoved", x: x + by, y: y + by / 2, button: "left", buttons: 1 });
-  await page.send("Input.dispatchMouseEvent", { type: "mouseReleased", x: x + 100, y: y + 50, button: "left", clickCount: 1 });
+  await page.drag(x, y, [20, 10], [60, 30], [100, 50]);
   same("a drag moves it", await page.until(`lab.store.now.sight.x < ${before.x}`), true);
-  await page.send("Input.dispatchMouseEvent", { type: "mouseWheel", x: x + 50, y: y + 50, deltaX: 0, deltaY: 120 });
+  await page.wheel(x + 50, y + 50, 120);
   same("a wheel zooms", await page.until(`lab.store.now.sight === null || lab.store.now.sight.w > ${before.w}`), true);
   await page.click("#fit");
   same("all of it is seen again", await page.value("lab.store.now.sight"), null);
@@ -332,7 +346,7 @@ async function tryAddress(page, url) {
 
 // Shows what is after `#` in this page, in a window of this size.
 async function visit(page, hash, width, height) {
-  await page.send("Emulation.setDeviceMetricsOverride", { width, height, deviceScaleFactor: 1, mobile: false });
+  await page.size(width, height);
   await page.value(`location.hash = ${JSON.stringify(hash)}`);
   await page.until(hash.includes("tour") ? "!document.getElementById('tour').hidden" : "!document.getElementById('lab').hidden");
   await settled(page);
@@ -341,14 +355,16 @@ async function visit(page, hash, width, height) {
 // Texts are seen well in the light and in the dark.
 async function tryContrast(page) {
   for (const scheme of ["light", "dark"]) {
-    await page.send("Emulation.setEmulatedMedia", { features: [{ name: "prefers-color-scheme", value: scheme }] });
+    const seen = await page.inScheme(scheme);
+    same(`it is ${scheme}`, await seen.value("matchMedia('(prefers-color-scheme: dark)').matches"), scheme === "dark");
     for (const look of ["tour=1", "tour=4", "tour=5", ...["network", "plan", "walk", "run", "figures", "about"].map(tab => `example=1&tab=${tab}&step=9&packet=1`)]) {
-      await visit(page, look, 1280, 900);
-      const { bad, measured } = await page.value(`(${contrasts})()`);
+      await visit(seen, look, 1280, 900);
+      const { bad, measured } = await seen.value(`(${contrasts})()`);
       same(`contrast of ${look} in the ${scheme}`, [bad, measured > 20], [[], true]);
     }
+    if (seen !== page) await seen.close();
   }
-  await page.send("Emulation.setEmulatedMedia", { features: [] });
+  await page.inScheme("");
 }
 
 // Nothing jumps while tools are chosen and the playback goes on, at the widths of desks, tablets and phones.
@@ -374,7 +390,7 @@ async function tryWidths(page) {
     }
     same(`the explainer doesn't jump at ${width}`, [scene.size, await page.value("document.documentElement.scrollWidth <= innerWidth")], [1, true]);
   }
-  await page.send("Emulation.setDeviceMetricsOverride", { width: 1400, height: 1000, deviceScaleFactor: 1, mobile: false });
+  await page.size(1400, 1000);
 }
 
 // The drawing is one stop of Tab, and arrows go on inside; pictures are files.
@@ -396,14 +412,11 @@ async function tryKeys(page) {
 
 const PARTS = [tryPlan, tryWalk, tryFaults, tryPasting, tryDrawing, tryRelabelling, tryLarge, tryLandmarks, tryMemory, tryHistory, tryAddress, tryKeys, tryWidths, tryContrast, tryTour];
 
-// What is tried in Firefox: all that no protocol of Chromium's own is wanted for.
-const ANYWHERE = [tryPlan, tryWalk, tryFaults, tryPasting, tryDrawing, tryRelabelling, tryLandmarks, tryHistory, tryTour];
-
 async function main() {
   const url = pathToFileURL(path.resolve(process.argv[2])).href, page = await Kind.open(url + "#example=1"), only = process.argv[3];
   try {
     await ready(page);
-    for (const part of (process.env.FIREFOX ? ANYWHERE : PARTS).filter(it => !only || it.name.toLowerCase() === "try" + only)) await part(page, url);
+    for (const part of PARTS.filter(it => !only || it.name.toLowerCase() === "try" + only)) await part(page, url);
     same("no script failed, and nothing was asked of another host", page.faults, []);
   } catch (error) {
     same("it went on", String(error.stack), "");
