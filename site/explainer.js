@@ -46,7 +46,7 @@ function drawTour() {
   const svg = byId("tour-drawing"), { graph } = scene, width = Math.max(430, Math.min(1000, svg.parentNode.clientWidth));
   const names = { ...graph, names: graph.names.map(spaced) };
   scene.width = width;
-  scene.drawing = placed(names, () => hopsBetween(graph), width, scene.given, { room: 23, above: 26, perLine: 6 });
+  scene.drawing = placed(names, () => hopsBetween(graph), width, scene.given, { room: width < 600 ? 15 : 23, above: 26, perLine: 6 });
   const { sheet, points, names: at } = scene.drawing;
   svg.textContent = "";
   svg.setAttribute("viewBox", `0 0 ${sheet.width} ${sheet.height}`);
@@ -80,22 +80,28 @@ function reserveCaption() {
   caption.parentNode.style.minHeight = Math.max(...heights) + "px";
 }
 
+// Whether the drawing is a phone's, where two labels of a node stand one above the other.
+function isNarrow() {
+  return scene.width < 600;
+}
+
 // The labels of a node: a circle for each, in the colour of its epoch.
 function showLabels(group, labels, isChanged) {
   group.textContent = "";
   if (labels.length === 0) drawn(group, "circle", { class: "spot", r: 7 });
   labels.forEach(({ epoch, label }, i) => {
-    const x = labels.length > 1 ? i * 21 - 10.5 : 0;
-    drawn(group, "circle", { class: `badge epoch-${epoch}` + (isChanged ? " changed" : ""), cx: x, r: 11 });
-    drawn(group, "text", { class: "badge-said", x, y: 4.5 }).textContent = label;
+    const aside = labels.length > 1 ? i * 21 - 10.5 : 0, x = isNarrow() ? 0 : aside, y = isNarrow() ? aside : 0;
+    drawn(group, "circle", { class: `badge epoch-${epoch}` + (isChanged ? " changed" : ""), cx: x, cy: y, r: 11 });
+    drawn(group, "text", { class: "badge-said", x, y: y + 4.5 }).textContent = label;
   });
 }
 
-// How far along a link its interval stands: near the node, where no packet covers it.
-function clearPart(p, q, parcels) {
-  const far = Math.hypot(q.x - p.x, q.y - p.y), parts = [56, 74, 92].map(it => Math.min(0.5, it / far));
-  const isClear = part => parcels.every(it => Math.abs(p.x + (q.x - p.x) * part - it.x) > 44 || Math.abs(p.y + (q.y - p.y) * part - it.y + 29) > 24);
-  return parts.find(isClear) ?? parts[0];
+// Where the interval of a link stands: near the node on the link, and aside of a packet that would cover it.
+function placeOf(p, q, parcels) {
+  const far = Math.hypot(q.x - p.x, q.y - p.y), at = part => ({ x: p.x + (q.x - p.x) * part, y: p.y + (q.y - p.y) * part });
+  const covering = ({ x, y }) => parcels.find(it => Math.abs(x - it.x) < 46 && Math.abs(y - it.y) < 24);
+  const places = [56, 74, 92].map(it => at(Math.min(0.5, it / far))), first = places[0], parcel = covering(first);
+  return places.find(it => !covering(it)) || { x: parcel.x + (first.x < parcel.x ? -48 : 48), y: first.y };
 }
 
 // The intervals of a node, each on the link that serves it.
@@ -105,13 +111,13 @@ function showIntervals({ ring, lit, packets }) {
   if (!ring) return;
   const { points } = scene.drawing, row = scene.plans[ring.epoch - 1].rows[ring.node], said = new Map();
   for (const it of row.intervals) said.set(it.to, [...said.get(it.to) || [], interval(it)]);
-  const p = points[ring.node];
+  const p = points[ring.node], parcels = packets.map(packet => ({ x: points[packet.node].x, y: points[packet.node].y - lift(packet.node) }));
   for (const [to, texts] of said) {
-    const q = points[to], part = clearPart(p, q, packets.map(packet => points[packet.node]));
+    const q = points[to], at = placeOf(p, q, parcels);
     const isLit = lit && lit.u === ring.node && lit.v === to;
     if (lit && !isLit && ring.epoch === 2) continue;
     scene.links.get(pairOf(ring.node, to)).setAttribute("class", `link serves epoch-${ring.epoch}` + (isLit ? " lit" : ""));
-    const text = drawn(scene.ring, "text", { class: `interval epoch-${ring.epoch}` + (isLit ? " lit" : ""), x: p.x + (q.x - p.x) * part, y: p.y + (q.y - p.y) * part + 4 });
+    const text = drawn(scene.ring, "text", { class: `interval epoch-${ring.epoch}` + (isLit ? " lit" : ""), x: at.x, y: at.y + 4 });
     if (isLit) text.textContent = interval(lit.found);
     else text.textContent = texts.length > 3 ? texts.slice(0, 3).join(" ") + " \u2026" : texts.join(" ");
   }
@@ -127,6 +133,11 @@ function showTrail(beat) {
   }
 }
 
+// How far above its node a packet stands: above both labels where they stand one above the other.
+function lift(node) {
+  return 29 + (isNarrow() && scene.nodes[node].querySelectorAll(".badge").length > 1 ? 10 : 0);
+}
+
 // The packets on their way from where they were; `part` is 1 where they have come.
 function showPackets(beat, before, part) {
   const { points } = scene.drawing, smooth = part * part * (3 - 2 * part);
@@ -134,7 +145,7 @@ function showPackets(beat, before, part) {
   for (const packet of beat.packets) {
     const was = (before && before.packets.find(it => it.id === packet.id)) || packet, p = points[was.node], q = points[packet.node];
     const shift = beat.packets.some(it => it.id < packet.id && it.node === packet.node) ? 38 : 0;
-    const group = drawn(scene.packets, "g", { class: "parcel", transform: `translate(${p.x + (q.x - p.x) * smooth + shift} ${p.y + (q.y - p.y) * smooth - 29})` });
+    const group = drawn(scene.packets, "g", { class: "parcel", transform: `translate(${p.x + (q.x - p.x) * smooth + shift} ${p.y + (q.y - p.y) * smooth - lift(packet.node)})` });
     drawn(group, "path", { class: `parcel-back epoch-${packet.epoch}`, d: "M-15 -11h30a4 4 0 0 1 4 4v13a4 4 0 0 1 -4 4h-10l-5 7l-5 -7h-10a4 4 0 0 1 -4 -4v-13a4 4 0 0 1 4 -4z" });
     drawn(group, "text", { class: "parcel-said", y: 4 }).textContent = packet.label;
     drawn(group, "title").textContent = `packet ${packet.id}, for the label ${packet.label} of epoch ${packet.epoch}`;

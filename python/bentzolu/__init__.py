@@ -5,12 +5,12 @@
     plan = bentzolu.plan(graph, kind="compact")
     run = bentzolu.simulate(graph, [("inject", 0, 7), ("drain",)])
 
-The calls are `plan`, `compile_many`, `walk`, `stats`, `prefixes`, `ranges`, `draw`, `simulate`, `live` and `check`;
+The calls are `plan`, `compile_many`, `walk`, `stats`, `compare`, `prefixes`, `ranges`, `draw`, `simulate`, `live` and `check`;
 `help(bentzolu.Options)` shows what all of them take. `sweep` makes the plan under each of many failures, `Timeline`
 plays networks that change in time, and `figures` draws.
 """
 from . import figures as figures  # noqa: F401
-from .calls import check, compile_many, draw, live, names_of, plan, prefixes, ranges, simulate, stats, walk
+from .calls import check, compare, compile_many, draw, live, names_of, plan, prefixes, ranges, simulate, stats, walk
 from .diffs import NodeDiff, PlanDiff, diff, patched
 from .errors import (
     BentzoluError, DirectedGraphError, FailureError, FormatError, GraphError, MissingPackageError, MultigraphError,
@@ -25,19 +25,19 @@ from .program import find as find_program
 from .relabelling import Relabeller
 from .sweeping import FailureRow, Sweep, read_sweep, sweep
 from .texts import (
-    Bits, Compactness, Interval, NodePlan, NodePrefixes, Packet, Plan, Prefix, Prefixes, Refused, Run, Segment, Stats, Verdict,
-    Walk, WalkStep, Worst, read_plan, read_prefixes, read_stats, read_trace, read_walk, write_trace,
+    Bits, Compactness, Compared, Comparison, Interval, NodePlan, NodePrefixes, Packet, Plan, Prefix, Prefixes, Refused, Run, Segment, Stats, Verdict,
+    Walk, WalkStep, Worst, read_comparison, read_plan, read_prefixes, read_stats, read_trace, read_walk, write_trace,
 )
 from .timelines import Timeline
 
 __version__ = "2.0.0"
 
 __all__ = [
-    "BentzoluError", "Bits", "Compactness", "DirectedGraphError", "FormatError", "GraphError", "Interval", "MultigraphError",
+    "BentzoluError", "Bits", "Compactness", "Compared", "Comparison", "DirectedGraphError", "FormatError", "GraphError", "Interval", "MultigraphError",
     "Names", "NodePlan", "NodePrefixes", "Options", "Packet", "Plan", "Prefix", "Prefixes", "ProgramNotFoundError", "Range", "Refused",
     "RouteError", "Run", "Segment", "Stats", "StepError", "TopologyWarning", "UnknownNodeError", "Verdict", "Walk",
-    "WalkStep", "WeightError", "Worst", "check", "check_ranges", "compile_many", "draw", "find_program", "live", "names_of",
-    "plan", "prefixes", "ranges", "read_plan", "read_prefixes", "read_ranges", "read_stats", "read_trace", "read_walk", "scaled",
+    "WalkStep", "WeightError", "Worst", "check", "check_ranges", "compare", "compile_many", "draw", "find_program", "live", "names_of",
+    "plan", "prefixes", "ranges", "read_comparison", "read_plan", "read_prefixes", "read_ranges", "read_stats", "read_trace", "read_walk", "scaled",
     "simulate", "stats", "walk", "write_trace",
     # what if: sweeps, changes between plans, networks in time
     "FailureError", "FailureRow", "MissingPackageError", "NodeDiff", "PlanDiff", "Relabeller", "ResultsError", "Shell", "Sweep",

@@ -56,8 +56,9 @@ def options_of(topology: Topology, given: Options) -> list[str]:
 
 
 def words_of(given: Options) -> list[str]:
-    """The further words of options: the landmarks and the stretch, and those that are given as words."""
-    return [*detour_words(given.landmarks, given.stretch), *map(str, given.words)]
+    """The further words of options: the numbering, the landmarks and the stretch, and those that are given as words."""
+    numbering = [] if given.numbering is None else [f"--numbering={os.fspath(given.numbering)}"]
+    return [*numbering, *detour_words(given.landmarks, given.stretch), *map(str, given.words)]
 
 
 def asked(subcommand: str, graph: Network, given: Options, ends: Sequence[Any] | None = None) -> tuple[str, NameTable]:
@@ -79,7 +80,7 @@ def plan(graph: Network, kind: str | None = None, root: Any = None, *, options: 
     options : Options, optional
         Options as one value.
     **named
-        Further options by name: `landmarks`, `stretch`, `weight`, `program`, `timeout` and `words`, as in `Options`.
+        Further options by name: `numbering`, `landmarks`, `stretch`, `weight`, `program`, `timeout` and `words`, as in `Options`.
 
     Returns
     -------
@@ -222,6 +223,48 @@ def stats(graph: Network, kind: str | None = None, root: Any = None, *, options:
     """
     output, names = asked("stats", graph, chosen(options, named, kind=kind, root=root))
     return texts.read_stats(output, names)
+
+
+def compare(graph: Network, root: Any = None, *, options: Options | None = None, **named: Any) -> texts.Comparison:
+    """The figures of plans of all kinds and numberings of the graph, and of full tables.
+
+    Parameters
+    ----------
+    graph, root, options, **named
+        As for `plan`; a comparison has all kinds, so none is given.
+
+    Returns
+    -------
+    Comparison
+        With `rows`, `table_bits` and `least(most_stretch)`.
+
+    Raises
+    ------
+    RouteError
+        As for `plan`.
+    TypeError
+        If a kind or a numbering is given.
+
+    Examples
+    --------
+    >>> import bentzolu
+    >>> found = bentzolu.compare([("a", "b"), ("b", "c"), ("c", "d"), ("d", "a")])
+    >>> [(row.kind, row.starts) for row in found.rows][:2]
+    [('shortest', 8), ('shortest', 8)]
+    >>> found.least(most_stretch=1).kind
+    'shortest'
+    """
+    for name in ("kind", "numbering", "landmarks", "stretch"):
+        if named.get(name) is not None:
+            raise TypeError(f"{name!r} is not an option of this call: a comparison has all kinds and numberings")
+    given = chosen(options, named, root=root)
+    topology = topology_of(graph, given.weight)
+    words = [] if "--format" in given.words else list(topology.options)
+    if given.root is not None:
+        words.append(f"--root={topology.names.name(given.root)}")
+    said = programs.run(["compare", *words, *map(str, given.words)], [("topology", topology.text)], given.program, given.timeout, names=topology.names)
+    topology.warn(said.notes(), 3)
+    return texts.read_comparison(said.output)
 
 
 def prefixes(

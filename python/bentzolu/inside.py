@@ -17,7 +17,7 @@ from .typed import Shown, Texts
 VARIABLE = "BENTZOLU_LIBRARY"
 BESIDE = pathlib.Path(__file__).resolve().parent / "libbentzolu.so"
 OF_SYSTEM = "libbentzolu.so.1"
-SUBCOMMANDS = ("plan", "walk", "stats", "draw", "prefixes", "ranges", "xdp", "sim", "check")
+SUBCOMMANDS = ("plan", "walk", "stats", "compare", "draw", "prefixes", "ranges", "xdp", "sim", "check")
 OWN_TEXT = ("-h", "--help", "-V", "--version")  # words whose text the library gives as faults
 FIRST_ROOM, FAULT_ROOM = 1 << 20, 1 << 14
 

@@ -28,8 +28,11 @@ class Options:
         the program that `find_program` finds.
     timeout : float, optional
         Seconds, after which `subprocess.TimeoutExpired` is raised. A call with it goes to the program.
+    numbering : str or path, optional
+        How nodes are numbered: `"depth-first"` (the default), `"tour"`, which often takes fewer intervals, or the path of a file
+        that lists the nodes in order.
     words : sequence of str
-        Further words of the command line, as `("--numbering", "tour")`.
+        Further words of the command line, as `("--threads", "1")`.
     landmarks : int, optional
         For kind landmark: how many landmarks there are, 1 to 65,535; by default the least number of which four times the square
         is at least the number of nodes.
@@ -63,6 +66,7 @@ class Options:
     restamps: int | None = None
     landmarks: int | None = None
     stretch: int | None = None
+    numbering: str | os.PathLike[str] | None = None
 
 
 NAMES = tuple(it.name for it in fields(Options))

@@ -88,6 +88,13 @@ def stats(found: texts.Stats) -> str:
     return table(f"Stats {found.kind}", ("figure", "value"), rows)
 
 
+def comparison(found: texts.Comparison) -> str:
+    rows = [(it.kind, it.numbering, f"{it.starts:,}", f"{it.greatest_row:,}", f"{it.bits:,}", f"{float(it.stretch):.2f}", f"{float(it.worst):.2f}",
+             "none" if it.is_acyclic else "possible") for it in found.rows]
+    rows.append(("full tables", "", "", "", f"{found.table_bits:,}", "", "", ""))
+    return table(f"{found.nodes:,} nodes, {found.links:,} links", ("kind", "numbering", "intervals", "greatest row", "bits", "stretch", "worst", "deadlock"), rows)
+
+
 def run(found: texts.Run) -> str:
     def segment(it: texts.Segment) -> str:
         return f"epoch {it.epoch}: {joined(it.hops)}"

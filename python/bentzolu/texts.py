@@ -720,6 +720,80 @@ def read_stats(text: str, names: NodeNames = SAME) -> Stats:
     return Stats(kind=first[1], nodes=number(first[2], 1), further=found, **known)
 
 
+class Compared(NamedTuple):
+    """The figures of one plan, beside others of the same network. `kind` is `"landmark-150"` for paths of at most 150 percent of
+    the distance; `worst` is the greatest stretch of a pair, and `is_acyclic` whether no ring of links can wait."""
+
+    kind: str
+    numbering: str
+    starts: int
+    greatest_row: int
+    bits: int
+    stretch: Fraction
+    worst: Fraction
+    is_acyclic: bool
+
+
+@dataclass(frozen=True)
+class Comparison:
+    """The figures of plans of all kinds and numberings. `table_bits` are those of full tables."""
+
+    nodes: int
+    links: int
+    rows: Tuple[Compared, ...]
+    table_bits: int
+
+    def least(self, most_stretch: float = float("inf")) -> Compared:
+        """The first plan of the fewest bits whose paths are, in the mean, at most so many times the distances."""
+        found = [row for row in self.rows if row.stretch <= most_stretch]
+        if not found:
+            raise ValueError(f"no plan has a stretch of at most {most_stretch}: the least is {float(min(row.stretch for row in self.rows)):.4g}")
+        return min(found, key=lambda row: row.bits)
+
+    def _repr_html_(self) -> str:
+        return shown.comparison(self)
+
+
+def ratio_of(word: str, line: int) -> Fraction:
+    """A ratio, of two numbers with a slash; 1 where there are no paths."""
+    above, slash, below = word.partition("/")
+    if not slash:
+        raise FormatError(f"expected two numbers with a slash, not {word!r}", line)
+    return Fraction(number(above, line), number(below, line)) if number(below, line) else Fraction(1)
+
+
+def read_comparison(text: str) -> Comparison:
+    """The figures of all kinds, of the text that `bentzolu compare` prints.
+
+    Parameters
+    ----------
+    text : str
+
+    Returns
+    -------
+    Comparison
+
+    Raises
+    ------
+    FormatError
+        If it is another text.
+    """
+    first, lines = headed(text, "compare", 3)
+    rows: list[Compared] = []
+    table_bits: int | None = None
+    for line, words in list(lines)[1:]:
+        if len(words) < 8:
+            raise FormatError("expected eight words", line)
+        if words[0] == "tables":
+            table_bits = number(words[4], line)
+            continue
+        starts, greatest, bits = (number(word, line) for word in words[2:5])
+        rows.append(Compared(words[0], words[1], starts, greatest, bits, ratio_of(words[5], line), ratio_of(words[6], line), words[7] == "acyclic"))
+    if table_bits is None or not rows:
+        raise FormatError("there is no line 'tables', or no plan", 1)
+    return Comparison(number(first[1], 1), number(first[2], 1), tuple(rows), table_bits)
+
+
 def read_segments(words: list[str], line: int, names: NodeNames) -> tuple[Segment, ...]:
     """The segments of a row of version 2."""
     segments: list[tuple[int, list[Any]]] = []

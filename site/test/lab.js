@@ -219,6 +219,7 @@ async function tryRelabelling(page) {
   same("the playback comes to its end", await page.until("!lab.store.now.isPlaying && lab.store.now.step === lab.store.now.last"), true);
   same("the link is down", await page.value("document.querySelectorAll('#drawing .link.down').length"), 1);
   same("none is under way at the end", (await shown(page, "#packets td:last-child")).filter(it => /^at |not yet/.test(it)), []);
+  await page.click("#tab-network");
   await page.type("#topology", "p q 1\nq r 1\nr s 1\ns p 1\n");
   await settled(page);
   await page.click("#tab-run");
