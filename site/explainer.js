@@ -53,11 +53,9 @@ function drawTour() {
   const links = drawn(svg, "g");
   scene.links = new Map(graph.links.map(({ u, v }) => [pairOf(u, v), drawn(links, "line", { class: "link", x1: points[u].x, y1: points[u].y, x2: points[v].x, y2: points[v].y })]));
   scene.trail = drawn(svg, "g");
-  scene.nodes = graph.names.map((name, u) => {
-    const group = drawn(svg, "g", { transform: `translate(${points[u].x} ${points[u].y})` });
-    drawn(svg, "text", { class: "name", x: at[u].x, y: at[u].y, "text-anchor": "middle" }).textContent = names.names[u];
-    return group;
-  });
+  scene.nodes = points.map(({ x, y }) => drawn(svg, "g", { transform: `translate(${x} ${y})` }));
+  scene.names = at.map(({ x, y }) => drawn(svg, "text", { class: "name", x, y, "text-anchor": "middle" }));
+  scene.names.forEach((text, u) => { text.textContent = names.names[u]; });
   scene.ring = drawn(svg, "g");
   scene.packets = drawn(svg, "g");
   reserveCaption();
@@ -123,6 +121,13 @@ function showIntervals({ ring, lit, packets }) {
   }
 }
 
+// The names; on a phone, where there is no room for all, those that a beat is about.
+function showSomeNames({ ring, packets, trail }) {
+  const about = new Set([...packets.map(packet => packet.node), ...trail.slice(0, 1).map(it => it.u)]);
+  if (ring) [ring.node, ...scene.plans[ring.epoch - 1].rows[ring.node].intervals.map(it => it.to)].forEach(u => about.add(u));
+  scene.names.forEach((text, u) => text.classList.toggle("away", isNarrow() && about.size > 0 && !about.has(u)));
+}
+
 function showTrail(beat) {
   const { points } = scene.drawing;
   scene.trail.textContent = "";
@@ -158,6 +163,7 @@ export function showBeat() {
   const all = beats(), { beat: at, isTourPlaying } = store.now, beat = all[Math.min(at, all.length - 1)], before = at > 0 ? all[at - 1] : null;
   beat.labels.forEach((labels, u) => showLabels(scene.nodes[u], labels, beat.isMixed && labels.some(it => it.epoch === 2)));
   showIntervals(beat);
+  showSomeNames(beat);
   showTrail(beat);
   showPackets(beat, before, 1);
   const isStart = at === 0 && !isTourPlaying && !store.now.isTourBegun;
