@@ -118,8 +118,8 @@ built() {
     [ -z "$commit" ] || [ -z "$(git -C "$sources" status --porcelain -- crates 2> /dev/null)" ] || commit="$commit, and changes"
     echo "commit ${commit:-not known}"
     echo "kit $(rt version 2> /dev/null || echo 'not known')"
-    if ! cmp -s "$program" "$sources/crates/route/out/route"; then
-        echo 'proved not known: it is another program than crates/route/out/route'
+    if ! cmp -s "$program" "$sources/crates/route/out/route" || [ ! -s "$sources/crates/route/out/route.stamp" ]; then
+        echo 'proved not known: it is another program than the one that rt linked in crates/route/out'
     elif [ -n "$(find "$sources/crates" -path '*/src/*.rt' -newer "$sources/crates/route/out/route" 2> /dev/null | head -n 1)" ]; then
         echo 'proved not known: sources are newer than the program'
     else

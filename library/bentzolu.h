@@ -1,4 +1,4 @@
-/* What the program `route` answers, as a call: see bentzolu(3). */
+/* What the program `bentzolu` answers, as a call: see bentzolu(3). */
 #ifndef BENTZOLU_H
 #define BENTZOLU_H
 
@@ -14,7 +14,7 @@ struct bentzolu_lengths {
     size_t output, faults;
 };
 
-/* Does what words ask for over texts in memory, and answers the status of `route`: 0 done; 1 an input is refused, or there
+/* Does what words ask for over texts in memory, and answers the status of `bentzolu`: 0 done; 1 an input is refused, or there
    is a finding; 2 the words are refused; 3 out of memory, or the words are those of `live`.
 
    Each word ends in a line feed: "plan\n--kind\ntree\ntopology\n". The second text is the script, or the order of nodes that

@@ -1,4 +1,4 @@
-"""Interval routing with live relabelling: `route` over graphs of NetworkX.
+"""Interval routing with live relabelling: `bentzolu` over graphs of NetworkX.
 
     import bentzolu, networkx
     graph = networkx.petersen_graph()
@@ -33,7 +33,8 @@ from .timelines import Timeline
 __version__ = "2.0.0"
 
 __all__ = [
-    "BentzoluError", "Bits", "Compactness", "Compared", "Comparison", "DirectedGraphError", "FormatError", "GraphError", "Interval", "MultigraphError",
+    "BentzoluError", "Bits", "Compactness", "Compared", "Comparison", "DirectedGraphError", "FormatError", "GraphError", "Interval",
+    "MultigraphError",
     "Names", "NodePlan", "NodePrefixes", "Options", "Packet", "Plan", "Prefix", "Prefixes", "ProgramNotFoundError", "Range", "Refused",
     "RouteError", "Run", "Segment", "Stats", "StepError", "TopologyWarning", "UnknownNodeError", "Verdict", "Walk",
     "WalkStep", "WeightError", "Worst", "check", "check_ranges", "compare", "compile_many", "draw", "find_program", "live", "names_of",

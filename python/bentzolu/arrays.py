@@ -366,7 +366,7 @@ def change(before: Rows, after: Rows, n: int, degree: Array) -> Change:
 
 
 def bits_of(rows: Rows, degree: Array) -> int:
-    """The bits of all rows, as `route stats` counts them: for each interval a label and a port. `degree` is by place."""
+    """The bits of all rows, as `bentzolu stats` counts them: for each interval a label and a port. `degree` is by place."""
     np = numpy()
     label = bits_for(len(rows.nodes))
     port = np.array([bits_for(it) for it in degree[rows.nodes]], np.int64)

@@ -1,4 +1,4 @@
-"""The subcommands of `route` over graphs of NetworkX, lists of edges and files.
+"""The subcommands of `bentzolu` over graphs of NetworkX, lists of edges and files.
 
 What all calls take:
 
@@ -262,7 +262,8 @@ def compare(graph: Network, root: Any = None, *, options: Options | None = None,
     words = [] if "--format" in given.words else list(topology.options)
     if given.root is not None:
         words.append(f"--root={topology.names.name(given.root)}")
-    said = programs.run(["compare", *words, *map(str, given.words)], [("topology", topology.text)], given.program, given.timeout, names=topology.names)
+    asked_for = ["compare", *words, *map(str, given.words)]
+    said = programs.run(asked_for, [("topology", topology.text)], given.program, given.timeout, names=topology.names)
     topology.warn(said.notes(), 3)
     return texts.read_comparison(said.output)
 
@@ -397,7 +398,7 @@ def simulate(
     graph: Network, steps: Any, kind: str | None = None, root: Any = None, capacity: int | None = None,
     packets: int | None = None, restamps: int | None = None, *, options: Options | None = None, **named: Any,
 ) -> texts.Run:
-    """Plays steps over the graph, one after the other (`route sim`): the packets, and the steps that were refused.
+    """Plays steps over the graph, one after the other (`bentzolu sim`): the packets, and the steps that were refused.
 
     After an `install` packets are stamped with the earlier epoch until a step `("learn", epoch)`.
 
@@ -444,7 +445,7 @@ def live(
     graph: Network, steps: Any, kind: str | None = None, root: Any = None, capacity: int | None = None,
     packets: int | None = None, restamps: int | None = None, *, options: Options | None = None, **named: Any,
 ) -> texts.Run:
-    """Plays steps while each node runs in a thread of its own (`route live`).
+    """Plays steps while each node runs in a thread of its own (`bentzolu live`).
 
     How packets and changes meet can differ from run to run.
 
@@ -528,7 +529,7 @@ def check(
 
 
 def names_of(graph: Network) -> NameTable:
-    """The table of the names that the nodes have in texts of `route`; printed it has a line for each node.
+    """The table of the names that the nodes have in texts of `bentzolu`; printed it has a line for each node.
 
     Parameters
     ----------

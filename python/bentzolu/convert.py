@@ -1,4 +1,4 @@
-"""Files of networks in other formats, as weighted edge lists of `route`."""
+"""Files of networks in other formats, as weighted edge lists of `bentzolu`."""
 from __future__ import annotations
 
 import math

@@ -16,7 +16,7 @@ def quoted(text: str) -> str:
 
 
 def renamed(dot: str, names: NameTable) -> str:
-    """A drawing in which each node is shown by what it is in the graph; its identifier stays its name in `route`."""
+    """A drawing in which each node is shown by what it is in the graph; its identifier stays its name in `bentzolu`."""
     shown = {quoted(name): quoted(str(node)) for node, name in names.changed()}
 
     def line(text: str) -> str:
@@ -29,7 +29,7 @@ def renamed(dot: str, names: NameTable) -> str:
 
 
 def spelled(interval: Interval) -> str:
-    """An interval in the writing of `route draw`."""
+    """An interval in the writing of `bentzolu draw`."""
     return f"[{interval.start},{interval.end})"
 
 

@@ -34,7 +34,7 @@ class StepError(BentzoluError, ValueError):
 
 
 class ProgramNotFoundError(BentzoluError, FileNotFoundError):
-    """There is no program `route` where one was looked for."""
+    """There is no program `bentzolu` where one was looked for."""
 
 
 class FormatError(BentzoluError, ValueError):

@@ -236,7 +236,7 @@ def why_not(words: Sequence[str]) -> str:
         return f"no family {family!r}" + (f" (did you mean {near[0]!r}?)" if near else f"; the families are {', '.join(FAMILIES)}")
     wanted = numbers_of(family)
     if len(numbers) != len(wanted):
-        return f"{family} takes {' and '.join(wanted)}, {len(wanted)} number{'s' * (len(wanted) > 1)}; here {'is' if len(numbers) == 1 else 'are'} {len(numbers)}"
+        return f"{family} takes {' and '.join(wanted)}; {len(numbers)} {'number was' if len(numbers) == 1 else 'numbers were'} given"
     for name, number in zip(wanted, numbers):
         if not (number.isascii() and number.isdigit() and 1 <= int(number) <= MOST_LINKS):
             return f"{name} is a whole number from 1 to {MOST_LINKS:,}, and {number!r} is none"
@@ -271,7 +271,7 @@ def add_words(parser: argparse.ArgumentParser) -> None:
 def generate(found: argparse.Namespace) -> int:
     """`generate topology`: prints a network; the status is 2 where there is none of these words."""
     if found.words[:1] != ["topology"] or len(found.words) == 1:
-        print(f"bentzolu generate: the words are topology FAMILY NUMBER..; the families are {', '.join(FAMILIES)}; see bentzolu generate --help", file=sys.stderr)
+        print(f"bentzolu generate: the words are topology FAMILY NUMBER..; the families are {', '.join(FAMILIES)}", file=sys.stderr)
         return 2
     words = found.words[1:]
     why = why_not(words)

@@ -1,4 +1,4 @@
-"""Graphs of NetworkX as weighted edge lists of `route`."""
+"""Graphs of NetworkX as weighted edge lists of `bentzolu`."""
 from __future__ import annotations
 
 import math

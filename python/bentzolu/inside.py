@@ -1,4 +1,4 @@
-"""The library for C in this process: what `route` answers, where no program need be started.
+"""The library for C in this process: what `bentzolu` answers, where no program need be started.
 
 It is the library of the variable BENTZOLU_LIBRARY; where that is not set it is `libbentzolu.so` beside this file, as a wheel
 brings it, or `libbentzolu.so.1` of the system. An empty variable means none.

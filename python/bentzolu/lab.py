@@ -114,7 +114,7 @@ def plan_of(text, form, kind, words, order=None):
 
 
 def order_of(plan):
-    """The nodes of a plan in the order of their labels, a line each, as `--numbering FILE` of route takes it."""
+    """The nodes of a plan in the order of their labels, a line each, as `--numbering FILE` of bentzolu takes it."""
     return "".join(f"{node}\n" for node in sorted(plan.labels, key=plan.labels.get))
 
 

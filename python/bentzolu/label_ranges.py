@@ -1,4 +1,4 @@
-"""Ranges of labels, for tables that match ranges: nftables, P4, TCAMs, arrays of C; what `route ranges` prints.
+"""Ranges of labels, for tables that match ranges: nftables, P4, TCAMs, arrays of C; what `bentzolu ranges` prints.
 
 That the program's ranges are those of the plan is proved; nothing of this module is. So `check_ranges` compares what was
 read, label by label, with the plan's intervals before it is used.
@@ -33,7 +33,7 @@ def read_range(word: str, to: str, line: int, names: NodeNames) -> Range:
 
 
 def read_ranges(text: str, names: NodeNames = SAME) -> dict[Any, tuple[Range, ...]]:
-    """The ranges of each node, of the text that `route ranges` prints.
+    """The ranges of each node, of the text that `bentzolu ranges` prints.
 
     Parameters
     ----------

@@ -47,7 +47,7 @@ class Task(NamedTuple):
 
 
 def asked(words: Sequence[str], text: str, program: Optional[str], timeout: Optional[float]) -> Any:
-    """The plan that `route` prints for a topology: by the library in this process where there is one, else by the program, which
+    """The plan that `bentzolu` prints for a topology: by the library in this process where there is one, else by the program, which
     reads the topology from standard input and takes one thread."""
     if not (inside.is_chosen(program, timeout) and inside.library() is not None):
         command = [programs.find(program), *words, "--threads", "1", "--quiet", "-"]

@@ -1,6 +1,6 @@
-"""Names that `route` takes for the nodes of a graph, and the way back.
+"""Names that `bentzolu` takes for the nodes of a graph, and the way back.
 
-A name of `route` is 1 to 64 printable bytes of ASCII without a blank or `#`. Names that begin with `-` could be taken for
+A name of `bentzolu` is 1 to 64 printable bytes of ASCII without a blank or `#`. Names that begin with `-` could be taken for
 options, and a line that is exactly `%%` cuts an input, so neither is used here.
 """
 from __future__ import annotations
@@ -16,7 +16,7 @@ MOST_BYTES = 64
 
 
 def is_fine(name: str) -> bool:
-    """Whether a string is a name that `route` takes as it is, also as a word of the command line."""
+    """Whether a string is a name that `bentzolu` takes as it is, also as a word of the command line."""
     return (
         1 <= len(name) <= MOST_BYTES
         and all("!" <= letter <= "~" and letter != "#" for letter in name)

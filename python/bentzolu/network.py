@@ -1,4 +1,4 @@
-"""A network by places: nodes as numbers from 0, links as pairs of them, in the order in which `route` has both."""
+"""A network by places: nodes as numbers from 0, links as pairs of them, in the order in which `bentzolu` has both."""
 from __future__ import annotations
 
 import os
@@ -22,7 +22,7 @@ class Network(NamedTuple):
 
 
 def text_of(topology: Any, depth: int = 4) -> str:
-    """The weighted edge list of a topology; that of a file which `route` reads itself is made here. What was changed is warned of."""
+    """The weighted edge list of a topology; that of a file which `bentzolu` reads itself is made here. What was changed is warned of."""
     topology.warn(depth=depth)
     if not isinstance(topology.text, pathlib.Path):
         return str(topology.text)

@@ -1,4 +1,4 @@
-"""The program `route`: where it is, running it, and the sentences that it says; or the library in its place."""
+"""The program `bentzolu`: where it is, running it, and the sentences that it says; or the library in its place."""
 from __future__ import annotations
 
 import os
@@ -59,7 +59,7 @@ def find(program: str | os.PathLike[str] | None = None) -> str:
 
 
 def version(program: str | os.PathLike[str] | None = None) -> str:
-    """The first line that the program prints for `--version`, as `route 2.0.0` or `bentzolu 2.0.0`."""
+    """The first line that the program prints for `--version`, as `bentzolu 2.0.0`, or `route 2.0.0` where it was called so."""
     path = find(program)
     done = started([path, "--version"], None)
     lines = done.stdout.decode("utf-8", "replace").splitlines()

@@ -17,11 +17,11 @@ OPERANDS: dict[str, tuple[str, ...]] = {
     "inject": ("node", "node"), "drain": (), "down": ("node", "node"), "up": ("node", "node"), "install": ("word", "node"),
     "retire": ("number",), "learn": ("number",), "read": ("node", "number"), "act": ("node",),
 }
-OWN = (None, "adjlist", "edgelist")  # the formats that `route` reads itself, and one that is not known
+OWN = (None, "adjlist", "edgelist")  # the formats that `bentzolu` reads itself, and one that is not known
 
 
 class FileNames(SameNames):
-    """The table of a file that `route` reads itself: each node is a string, and its own name."""
+    """The table of a file that `bentzolu` reads itself: each node is a string, and its own name."""
 
     @staticmethod
     def name(node: Any) -> str:
@@ -39,7 +39,7 @@ class FileNames(SameNames):
 
 
 class Topology:
-    """A network as `route` gets it: the table of its names, its text or its path, and what was changed of it."""
+    """A network as `bentzolu` gets it: the table of its names, its text or its path, and what was changed of it."""
 
     def __init__(self, names: NameTable, text: Text, notes: Iterable[str] = ()) -> None:
         self.names, self.text, self.notes = names, text, tuple(notes)
@@ -72,7 +72,7 @@ def is_plain(text: str) -> bool:
 def of_file(
     path: str | os.PathLike[str], format: str | None = None, weight: str | None = "weight", largest: bool = False,
 ) -> Topology:
-    """The network of a file: as it is where `route` reads it itself; read here and made an edge list where its format is
+    """The network of a file: as it is where `bentzolu` reads it itself; read here and made an edge list where its format is
     another, where a list has tuples or attributes, or where other weights are wanted."""
     path = pathlib.Path(path)
     text = read_text(path)

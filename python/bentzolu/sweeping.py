@@ -459,7 +459,7 @@ def ended(there: Progress, broken: Broken) -> SweepError:
 
 def read_sweep(path: "os.PathLike[str] | str") -> Sweep:
     """The rows of a sweep's file, in the order in which they were made; a failure that was made again has its last row. Nodes are
-    strings, by their names in `route`.
+    strings, by their names in `bentzolu`.
 
     Raises
     ------

@@ -1,4 +1,4 @@
-"""What `route` prints, as data: plans, walks, figures, forwarding tables, traces and findings."""
+"""What `bentzolu` prints, as data: plans, walks, figures, forwarding tables, traces and findings."""
 from __future__ import annotations
 
 import re
@@ -154,7 +154,7 @@ class NodePlan:
 
 
 def interval_text(interval: Interval) -> str:
-    """An interval in the writing of `route draw`."""
+    """An interval in the writing of `bentzolu draw`."""
     return f"[{interval.start},{interval.end})"
 
 
@@ -449,7 +449,7 @@ class Refused:
 
 @dataclass(frozen=True, repr=False)
 class Run:
-    """What a script gave: the packets, the refused steps, and the trace as `route` printed it, in version 1 or 2. In a
+    """What a script gave: the packets, the refused steps, and the trace as `bentzolu` printed it, in version 1 or 2. In a
     notebook a run is shown as a table."""
 
     version: int
@@ -469,7 +469,7 @@ class Run:
 
 @dataclass(frozen=True)
 class Verdict:
-    """What `route check` says of a trace: whether it has no finding; then `rows` is their number, else `line`, `kind` and
+    """What `bentzolu check` says of a trace: whether it has no finding; then `rows` is their number, else `line`, `kind` and
     `sentence` are those of the first finding. It is true where there is no finding.
 
     What is judged of a row is whether its hops and its weight are those of the plan of its epoch. Whether its packet was
@@ -522,7 +522,7 @@ def count_of_row(row: str, line: int, names: NodeNames) -> int:
 
 
 def read_plan(text: str, names: NodeNames = SAME) -> Plan:
-    """A plan, of the text that `route plan` prints.
+    """A plan, of the text that `bentzolu plan` prints.
 
     Parameters
     ----------
@@ -576,7 +576,7 @@ def read_prefix(word: str, to: str, bits: int, line: int, names: NodeNames) -> P
 
 
 def read_prefixes(text: str, names: NodeNames = SAME) -> Prefixes:
-    """Forwarding tables, of the text that `route prefixes` prints.
+    """Forwarding tables, of the text that `bentzolu prefixes` prints.
 
     Parameters
     ----------
@@ -617,7 +617,7 @@ def read_prefixes(text: str, names: NodeNames = SAME) -> Prefixes:
 
 
 def read_walk(text: str, names: NodeNames = SAME) -> Walk:
-    """A walk, of the text that `route walk` prints.
+    """A walk, of the text that `bentzolu walk` prints.
 
     Parameters
     ----------
@@ -690,7 +690,7 @@ def read_figure(line: int, words: list[str], names: NodeNames) -> Any:
 
 
 def read_stats(text: str, names: NodeNames = SAME) -> Stats:
-    """The figures, of the text that `route stats` prints.
+    """The figures, of the text that `bentzolu stats` prints.
 
     Parameters
     ----------
@@ -923,7 +923,7 @@ def read_refused(
 
 
 def read_verdict(text: str, sentence: str | None = None) -> Verdict:
-    """The verdict, of what `route check` prints; `sentence` is that of a finding."""
+    """The verdict, of what `bentzolu check` prints; `sentence` is that of a finding."""
     words = text.split()
     if len(words) >= 2 and words[0] == "ok":
         return Verdict(True, rows=number(words[1], 1))

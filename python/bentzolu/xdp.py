@@ -1,4 +1,4 @@
-"""The plane in XDP of a node of Linux: its program `bentzolu-xdp`, and tables for it of the plans that `route` prints.
+"""The plane in XDP of a node of Linux: its program `bentzolu-xdp`, and tables for it of the plans that `bentzolu` prints.
 
 The program loads the plane, asks the kernel for each label before it says that a table is there, and counts. This module
 finds it, makes lines and rows for it, and reports what it says. `plane/make` builds it.
@@ -153,7 +153,7 @@ def plan_of(topology: str, kind: str, words: Sequence[str] = ()) -> texts.Plan:
     kind : str
         `shortest`, `compact`, `tree` or `landmark`.
     words : sequence of str
-        Further words of `route plan`, as `--root R`.
+        Further words of `bentzolu plan`, as `--root R`.
 
     Returns
     -------

@@ -95,7 +95,7 @@ def up(found: argparse.Namespace) -> int:
 
 
 def chosen(found: argparse.Namespace) -> List[str]:
-    """The further words of `route plan`."""
+    """The further words of `bentzolu plan`."""
     given = [f"--{name}={getattr(found, name)}" for name in ("root", "numbering") if getattr(found, name) is not None]
     return [*given, *detour_words(found.landmarks, found.stretch)]
 
