@@ -68,7 +68,7 @@ function reserveCaption() {
   text.removeAttribute("aria-live");
   trial.classList.add("away");
   caption.parentNode.after(trial);
-  const { beats: all, kept } = scene.story, longest = [...all, ...kept].map(beat => beat.caption).sort((a, b) => b.length - a.length).slice(0, 6);
+  const { beats: all, kept } = scene.story, longest = [...all, ...kept].map(beat => beat.caption).sort((a, b) => b.length - a.length).slice(0, 12);
   trial.style.minHeight = "0";
   const heights = longest.map(said => {
     text.textContent = said;
@@ -234,6 +234,19 @@ export async function filmOfTour(width, step = 0) {
   return film;
 }
 
+// Makes the drawing as wide as its place, and the room of the captions anew.
+export function fitTour() {
+  const wide = byId("tour-drawing").parentNode.clientWidth, width = Math.max(430, Math.min(1000, wide));
+  if (!scene.story || store.now.view !== "tour" || scene.seen === wide) return;
+  scene.seen = wide;
+  if (Math.abs(width - scene.width) < 60) {
+    reserveCaption();
+    return;
+  }
+  drawTour();
+  showBeat();
+}
+
 export function listenToTour() {
   const steps = byId("tour-steps");
   STEPS.forEach((title, i) => {
@@ -259,15 +272,5 @@ export function listenToTour() {
     else return;
     event.preventDefault();
   });
-  new ResizeObserver(() => {
-    const width = Math.max(430, Math.min(1000, byId("tour-drawing").parentNode.clientWidth));
-    if (!scene.story || store.now.view !== "tour" || scene.seen === byId("tour-drawing").parentNode.clientWidth) return;
-    scene.seen = byId("tour-drawing").parentNode.clientWidth;
-    if (Math.abs(width - scene.width) < 60) {
-      reserveCaption();
-      return;
-    }
-    drawTour();
-    showBeat();
-  }).observe(byId("tour-drawing").parentNode);
+  new ResizeObserver(fitTour).observe(byId("tour-drawing").parentNode);
 }

@@ -44,4 +44,4 @@ export function comparisonOf(text) {
   });
 }
 
-export const COMPARED = ["Kind", "Numbering", "Intervals", "Most at a node", "Bits", "Paths", "Worst path", "Deadlock"];
+export const COMPARED = ["Kind", "Numbering", "Intervals", "At a node", "Bits", "Paths", "Worst path", "Dead\u00adlock"];

@@ -6,7 +6,7 @@ import { pointAt } from "./drawing.js";
 import { showTab, tell } from "./panels.js";
 import { askRun, readGraph, refresh } from "./asking.js";
 import { EXAMPLES, exampleState, showState } from "./editing.js";
-import { beginTour, goToStep, stopTour } from "./explainer.js";
+import { beginTour, fitTour, goToStep, stopTour } from "./explainer.js";
 import { choose, goTo } from "./replay.js";
 import { LEAST_STRETCH, MOST_LANDMARKS, MOST_STRETCH, numberOr } from "./landmarks.js";
 import { EDITS, FORMATS, KINDS, LOOKS, NUMBERINGS, TABS, store } from "./state.js";
@@ -18,6 +18,7 @@ const visit = { turn: 0, isReading: false, wait: 0, isEdit: false, depth: 0, top
 export function showView(view) {
   store.set({ view });
   byId("tour").hidden = view !== "tour";
+  if (view === "tour") fitTour();
   byId("lab").hidden = view !== "lab";
   for (const name of ["tour", "lab"]) byId("view-" + name).setAttribute("aria-current", name === view ? "page" : "false");
 }
