@@ -6,6 +6,7 @@
 #include <bpf/libbpf.h>
 #include <dirent.h>
 #include <errno.h>
+#include <fcntl.h>
 #include <libgen.h>
 #include <linux/ethtool.h>
 #include <linux/if_link.h>
@@ -17,19 +18,19 @@
 #include <stdio.h>
 #include <stdlib.h>
 #include <string.h>
+#include <sys/file.h>
 #include <sys/ioctl.h>
 #include <sys/socket.h>
 #include <sys/stat.h>
 #include <time.h>
 #include <unistd.h>
 
-#include "plane.h"
+#include "store.h"
 
 #define PINS "/sys/fs/bpf/bentzolu"
 #define OBJECT "plane.bpf.o"
 #define PATH_BYTES 512
 #define MOST_LINES (1 + 16 + STARTS / WORDS)
-#define NO_WORD 0xFFFFFFFFu
 
 static const char words[] =
     "bentzolu-xdp [--pins DIR] [--object FILE] WORD ..\n"
@@ -534,36 +535,74 @@ static int wrong_label(const struct table *table, uint32_t epoch) {
     return wrong;
 }
 
-/* A map with the lines of a table, which nobody can change any more. */
-static int map_of_lines(const struct table *table) {
-    LIBBPF_OPTS(bpf_map_create_opts, options, .map_flags = BPF_F_INNER_MAP);
-    LIBBPF_OPTS(bpf_map_batch_opts, batch, .elem_flags = BPF_ANY);
-    uint32_t count = table->lines, *keys = room(count, 4);
-    for (uint32_t i = 0; i < count; i++)
-        keys[i] = i;
-    int map = bpf_map_create(BPF_MAP_TYPE_ARRAY, "table", 4, sizeof(struct line), count, &options);
-    if (map < 0 || bpf_map_update_batch(map, keys, table->line, &count, &batch) || bpf_map_freeze(map))
-        refuse_by(errno, "a table");
-    free(keys);
-    return map;
+/* All tables that the kernel has, by their slots, and the map that they stand in: -1 where there is none. */
+struct tables {
+    int map;
+    struct held of[EPOCHS];
+};
+
+/* A program alone changes tables at a time. */
+static void wait_for_others(void) {
+    int folder = open(pins, O_RDONLY | O_DIRECTORY);
+    if (folder >= 0)
+        flock(folder, LOCK_EX); /* until this process ends */
 }
 
-/* The epoch whose table stands in a slot, or -1; `handle` gets the table where it is asked for. */
-static int epoch_in(int epochs, uint32_t slot, int *handle) {
+static struct tables all_tables(const char *folder) {
+    struct tables found = {.map = -1};
     uint32_t id, zero = 0;
-    struct line line;
-    if (bpf_map_lookup_elem(epochs, &slot, &id))
-        return -1;
-    int map = bpf_map_get_fd_by_id(id);
-    if (map < 0 && errno == ENOENT) /* it went meanwhile */
-        return -1;
-    if (map < 0 || bpf_map_lookup_elem(map, &zero, &line))
-        refuse_by(errno, "the table of a slot");
-    if (handle)
-        *handle = map;
-    else
-        close(map);
-    return line.word[HEAD_EPOCH];
+    int outer = pinned_in(folder, "tables");
+    while (!bpf_map_lookup_elem(outer, &zero, &id)) {
+        found.map = bpf_map_get_fd_by_id(id);
+        if (found.map >= 0 || errno != ENOENT) /* else another one took its place meanwhile */
+            break;
+    }
+    close(outer);
+    if (found.map < 0)
+        return found;
+    uint32_t count = entries_of(found.map);
+    struct line *store = room(count, sizeof *store);
+    for (uint32_t at = 0; at < count; at++)
+        if (bpf_map_lookup_elem(found.map, &at, &store[at]))
+            refuse_by(errno, "the tables");
+    for (uint32_t entry = 0; entry <= store[0].word[0]; entry++) {
+        struct held it = held_at(store, entry);
+        if (it.lines)
+            found.of[it.line[0].word[HEAD_EPOCH] % EPOCHS] = it;
+    }
+    free(store);
+    return found;
+}
+
+/* The epoch whose table stands in a slot, or -1. */
+static int epoch_in(const struct tables *tables, uint32_t slot) {
+    const struct held *it = &tables->of[slot];
+    return it->lines ? (int)it->line[0].word[HEAD_EPOCH] : -1;
+}
+
+/* Puts a map with these tables, which nobody can change any more, in the place of the one that is there. A packet sees the one
+ * or the other. When this returns no program runs any more that has seen the old one. */
+static void put_tables(const struct tables *tables) {
+    LIBBPF_OPTS(bpf_map_create_opts, options, .map_flags = BPF_F_INNER_MAP);
+    LIBBPF_OPTS(bpf_map_batch_opts, batch, .elem_flags = BPF_ANY);
+    struct held held[EPOCHS];
+    uint32_t count = 0, lines = 0;
+    for (uint32_t slot = 0; slot < EPOCHS; slot++)
+        if (tables->of[slot].lines)
+            held[count++] = tables->of[slot];
+    struct line *store = stored(held, count, EPOCHS, &lines);
+    uint32_t *keys = room(lines ? lines : 1, 4);
+    for (uint32_t i = 0; i < lines; i++)
+        keys[i] = i;
+    if (!store)
+        refuse("out of memory");
+    int map = bpf_map_create(BPF_MAP_TYPE_ARRAY, "tables", 4, sizeof *store, lines, &options);
+    if (map < 0 || bpf_map_update_batch(map, keys, store, &lines, &batch) || bpf_map_freeze(map))
+        refuse_by(errno, "the tables");
+    put(pinned("tables"), 0, &map, "the tables");
+    close(map);
+    free(store);
+    free(keys);
 }
 
 static void clear_counts(uint32_t slot) {
@@ -577,26 +616,35 @@ static void clear_counts(uint32_t slot) {
 static void install(uint32_t epoch, const char *row) {
     struct table table = read_table(epoch, row);
     uint32_t slot = epoch % EPOCHS;
-    int epochs = pinned("epochs"), there = epoch_in(epochs, slot, NULL), map;
+    wait_for_others();
+    struct tables tables = all_tables(pins);
+    int there = epoch_in(&tables, slot);
     if (there == (int)epoch)
         refuse("epoch %u is already installed: retire it first", epoch);
     if (there >= 0)
         refuse("the slot of epoch %u is taken by epoch %d: retire that one first", epoch, there);
     clear_counts(slot);
-    map = map_of_lines(&table);
-    put(epochs, slot, &map, "the slot of the epoch");
+    tables.of[slot] = (struct held){table.lines, table.line};
+    put_tables(&tables);
     int wrong = wrong_label(&table, epoch);
     if (wrong >= 0) {
-        bpf_map_delete_elem(epochs, &slot);
+        tables.of[slot].lines = 0;
+        put_tables(&tables);
         refuse("the label %d is not forwarded as the row of epoch %u says: the table was removed again", wrong, epoch);
     }
 }
 
+/* All tables, of which that of an epoch has to be one. */
+static struct tables tables_with(uint32_t epoch) {
+    struct tables tables = all_tables(pins);
+    if (epoch_in(&tables, epoch % EPOCHS) != (int)epoch)
+        refuse("epoch %u is not installed", epoch);
+    return tables;
+}
+
 static void check(uint32_t epoch, const char *row) {
     struct table table = read_table(epoch, row);
-    int there = epoch_in(pinned("epochs"), epoch % EPOCHS, NULL);
-    if (there != (int)epoch)
-        refuse("epoch %u is not installed", epoch);
+    tables_with(epoch);
     int wrong = wrong_label(&table, epoch);
     if (wrong >= 0)
         refuse("the label %d is not forwarded as the row of epoch %u says", wrong, epoch);
@@ -604,10 +652,10 @@ static void check(uint32_t epoch, const char *row) {
 
 static void replace(uint32_t epoch) {
     struct table table = read_table(epoch, NULL);
-    int epochs = pinned("epochs"), map = map_of_lines(&table);
-    if (epoch_in(epochs, epoch % EPOCHS, NULL) != (int)epoch)
-        refuse("epoch %u is not installed", epoch);
-    put(epochs, epoch % EPOCHS, &map, "the slot of the epoch");
+    wait_for_others();
+    struct tables tables = tables_with(epoch);
+    tables.of[epoch % EPOCHS] = (struct held){table.lines, table.line};
+    put_tables(&tables);
 }
 
 static struct node node_of(int map) {
@@ -619,41 +667,34 @@ static struct node node_of(int map) {
 }
 
 static void lines_of(uint32_t epoch) {
-    int table;
-    if (epoch_in(pinned("epochs"), epoch % EPOCHS, &table) != (int)epoch)
-        refuse("epoch %u is not installed", epoch);
-    for (uint32_t at = 0, count = entries_of(table); at < count; at++) {
-        struct line line;
-        if (bpf_map_lookup_elem(table, &at, &line))
-            refuse_by(errno, "a table");
+    struct tables tables = tables_with(epoch);
+    const struct held *it = &tables.of[epoch % EPOCHS];
+    for (uint32_t at = 0; at < it->lines; at++)
         for (int i = 0; i < WORDS; i++)
-            printf("%08x%c", line.word[i], i < WORDS - 1 ? ' ' : '\n');
-    }
+            printf("%08x%c", it->line[at].word[i], i < WORDS - 1 ? ' ' : '\n');
 }
 
 static void stamp(uint32_t epoch) {
-    int epochs = pinned("epochs"), map = pinned("node"), table;
+    int map = pinned("node");
     struct node node = node_of(map);
-    uint32_t kept = epoch ? epoch : node.stamp; /* whose table is put once more */
-    int is_there = epoch_in(epochs, kept % EPOCHS, &table) == (int)kept;
-    if (epoch && !is_there)
+    wait_for_others();
+    struct tables tables = all_tables(pins);
+    if (epoch && epoch_in(&tables, epoch % EPOCHS) != (int)epoch)
         refuse("epoch %u is not installed: install it at all nodes before one stamps it", epoch);
     node.stamp = epoch;
     put(map, 0, &node, "the node");
-    /* This call returns when no program runs any more that has read the old stamp. */
-    if (is_there)
-        put(epochs, kept % EPOCHS, &table, "the slot of the epoch");
+    /* The same map once more: this call returns when no program runs any more that has read the old stamp. */
+    if (tables.map >= 0)
+        put(pinned("tables"), 0, &tables.map, "the tables");
 }
 
 static void retire(uint32_t epoch) {
-    int epochs = pinned("epochs");
-    uint32_t slot = epoch % EPOCHS;
-    if (epoch_in(epochs, slot, NULL) != (int)epoch)
-        refuse("epoch %u is not installed", epoch);
+    wait_for_others();
+    struct tables tables = tables_with(epoch);
     if (node_of(pinned("node")).stamp == epoch)
         refuse("the node still stamps its packets with epoch %u: stamp another one first", epoch);
-    if (bpf_map_delete_elem(epochs, &slot))
-        refuse_by(errno, "the slot of the epoch");
+    tables.of[epoch % EPOCHS].lines = 0;
+    put_tables(&tables);
 }
 
 /* Counters */
@@ -672,10 +713,11 @@ static void counts_of(int map, uint32_t slot, uint64_t *sums) {
 }
 
 static void counts(void) {
-    int map = pinned("counts"), epochs = pinned("epochs");
+    int map = pinned("counts");
+    struct tables tables = all_tables(pins);
     for (uint32_t slot = 0; slot < EPOCHS; slot++) {
         uint64_t sums[VERDICTS] = {0}, all = 0;
-        int epoch = epoch_in(epochs, slot, NULL);
+        int epoch = epoch_in(&tables, slot);
         counts_of(map, slot, sums);
         for (int i = 0; i < VERDICTS; i++)
             all += sums[i];
@@ -727,7 +769,8 @@ static void drained(uint32_t epoch, int count, char **folders) {
 }
 
 static void show(void) {
-    int who = pinned("who"), epochs = pinned("epochs");
+    int who = pinned("who");
+    struct tables tables = all_tables(pins);
     struct who self = who_at(who, SELF), host = who_at(who, HOST);
     printf("node %s mode %s host %s own %s stamp %u\n", self.name, modes[self.mode], host.device, self.device,
            node_of(pinned("node")).stamp);
@@ -736,11 +779,9 @@ static void show(void) {
         uint32_t now = if_nametoindex(it.device);
         printf("port %u %s %s%s\n", key - NEIGHBOURS, it.name, it.device, now == it.ifindex ? "" : " gone");
     }
-    for (uint32_t slot = 0; slot < EPOCHS; slot++) {
-        int handle, epoch = epoch_in(epochs, slot, &handle);
-        if (epoch >= 0)
-            printf("epoch %d lines %u\n", epoch, entries_of(handle));
-    }
+    for (uint32_t slot = 0; slot < EPOCHS; slot++)
+        if (epoch_in(&tables, slot) >= 0)
+            printf("epoch %d lines %u\n", epoch_in(&tables, slot), tables.of[slot].lines);
 }
 
 /* Events, for the lab */
