@@ -98,7 +98,7 @@ static struct line *stored(const struct held *tables, uint32_t count, uint32_t s
 }
 
 /* The table of an entry, whole as it was given; no lines where there is none, or no memory. */
-static struct held held_at(struct line *store, uint32_t entry) {
+static inline struct held held_at(struct line *store, uint32_t entry) {
     const uint32_t *it = word_at(store, ENTRY_WORDS * (1 + entry));
     struct held found = {0};
     if (!(it[0] & 0xFFFF) || !(found.line = calloc(1 + (it[3] >> 16), sizeof *found.line)))

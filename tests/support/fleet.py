@@ -845,6 +845,31 @@ def watched(b):
     count("status --watch --json", None if status == -signal.SIGTERM and len(shown()) > 1 else (status, shown()))
 
 
+OLD_ETCD = """
+import http.server, sys
+class Old(http.server.BaseHTTPRequestHandler):
+    def do_GET(self):
+        self.send_response(200)
+        self.end_headers()
+        self.wfile.write(b'{"etcdserver": "3.3.11"}')
+http.server.HTTPServer((sys.argv[1], 2399), Old).serve_forever()
+"""
+
+
+def old_etcd(b):
+    """An etcd of a version that is not wanted."""
+    b.start("old", "etcd1", [PYTHON, "-c", OLD_ETCD, b.hosts[0]])
+    config = b.folder / "old.conf"
+    config.write_text(f"[etcd]\nendpoints = http://{b.hosts[0]}:2399\n")
+
+    def said():
+        return subprocess.run([PYTHON, "-m", "bentzolu", "fleet", "status", "--config", config], capture_output=True, text=True, check=False).stderr
+    wanted = "is etcd 3.3.11: 3.4 or a later version of 3 is needed"
+    b.until(lambda: wanted in said(), "an etcd of another version is told")
+    b.kill("old")
+    count("an etcd of another version is told", None)
+
+
 def strangers(b):
     """Bad input, each told in a sentence: a second agent with a name, at its router and at another one, rules and rows of another
     program, a port that is not there, records that nobody can read."""
@@ -872,6 +897,7 @@ def strangers(b):
     count("somebody's row in the table goes, and is told", None if told and "a table of its own" in told["why"] else (found, told))
     wrong_port(b, node)
     unknown(b, node)
+    old_etcd(b)
     watched(b)
     said = b.until(lambda: (found := b.try_words("status", "--json")) and json.loads(found)["phase"] == "steady" and found, "it is steady")
     count("status --json", None if {"epochs", "members", "waits", "leader"} <= set(json.loads(said)) else said)
@@ -1344,7 +1370,7 @@ def run_package():
 
 GATE = {  # the long ones first
     "killed": (run_killed, 5), "grid": (run_grid, 4), "cut": (run_cut, 4), "nsfnet": (run_nsfnet, 10), "abilene": (run_abilene, 9),
-    "absent": (run_absent, 10), "links": (run_links, 22), "docs": (run_docs, 2), "secure": (run_secure, 8), "tags": (run_tags, 4),
+    "absent": (run_absent, 10), "links": (run_links, 23), "docs": (run_docs, 2), "secure": (run_secure, 8), "tags": (run_tags, 4),
     "control": (run_control, 1), "plane": (run_plane("tc"), 6), "native": (run_plane("xdp"), 6), "package": (run_package, 3),
 }
 LARGE = {**GATE, "times": (run_times, 3)}
