@@ -176,18 +176,18 @@ def bytes_of_tables() -> int:
 
 
 def of_memory() -> None:
-    """What one more table takes, of 16 that a node has: its row's words, and an entry of 16 bytes."""
+    """What one more table takes, until a node has 16: its row's words, and an entry of 16 bytes."""
     for starts, labels in ((4, 512), (16, 2048), (64, 2048), (256, 2048)):
         row = Row(labels, 1, tuple((at * labels // starts, at % 2) for at in range(starts)))
         found = []
-        for epoch in range(10, 26):
+        for epoch in range(2, 17):
             tool(f"install {epoch}", table(row, epoch))
             found.append(bytes_of_tables())
-        more = (found[-1] - found[0]) / 15
-        most = 1.3 * 4 * starts if starts >= 16 else 4 * starts + 20
+        more = (found[-1] - found[0]) / 14
+        most = 1.3 * 4 * starts if starts >= 16 else 4 * starts + 24  # an entry, and what a line has left
         count(f"memory: one more table of {starts} starts", None if 4 * starts <= more <= most else f"{more} bytes, of {found}")
-        count(f"memory: all of {starts} starts are right", None if all(tool(f"check {it}", table(row, it))[0] == 0 for it in (10, 17, 25)) else "one is not")
-        for epoch in range(10, 26):
+        count(f"memory: all of {starts} starts are right", None if all(tool(f"check {it}", table(row, it))[0] == 0 for it in (2, 9, 16)) else "one is not")
+        for epoch in range(2, 17):
             tool(f"retire {epoch}")
     count("memory: nothing is left", None if bytes_of_tables() < 1000 else f"{bytes_of_tables()} bytes")
 
