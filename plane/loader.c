@@ -6,6 +6,7 @@
 #include <bpf/libbpf.h>
 #include <dirent.h>
 #include <errno.h>
+#include <fcntl.h>
 #include <libgen.h>
 #include <linux/ethtool.h>
 #include <linux/if_link.h>
@@ -17,19 +18,19 @@
 #include <stdio.h>
 #include <stdlib.h>
 #include <string.h>
+#include <sys/file.h>
 #include <sys/ioctl.h>
 #include <sys/socket.h>
 #include <sys/stat.h>
 #include <time.h>
 #include <unistd.h>
 
-#include "plane.h"
+#include "store.h"
 
 #define PINS "/sys/fs/bpf/bentzolu"
 #define OBJECT "plane.bpf.o"
 #define PATH_BYTES 512
 #define MOST_LINES (1 + 16 + STARTS / WORDS)
-#define NO_WORD 0xFFFFFFFFu
 
 static const char words[] =
     "bentzolu-xdp [--pins DIR] [--object FILE] WORD ..\n"
@@ -348,139 +349,7 @@ static void up(const char *object_path, int count, char **given) {
 
 /* Tables */
 
-/* A row, and the lines that were made of it. */
-struct table {
-    uint32_t labels, own, count, *word;
-    uint32_t lines;
-    struct line *line;
-};
-
-static uint32_t read_all(FILE *file, uint8_t *into, uint32_t most) {
-    uint32_t size = 0, got;
-    while (size < most && (got = fread(into + size, 1, most - size, file)))
-        size += got;
-    return size;
-}
-
-/* The lines of a table, of text or of bytes. The third and fourth byte of a table's bytes are 0, since an epoch has 16 bits. */
-static void read_lines(struct table *table) {
-    uint32_t most = MOST_LINES * 9 * WORDS + 1, size;
-    uint8_t *data = room(most + 1, 1);
-    table->line = room(MOST_LINES, sizeof(struct line));
-    size = read_all(stdin, data, most);
-    if (size >= 128 && !data[2] && !data[3]) {
-        if (size % sizeof(struct line) || size / sizeof(struct line) > MOST_LINES)
-            refuse("a table has 1 to %d lines of %zu bytes, not %u bytes in all", MOST_LINES, sizeof(struct line), size);
-        memcpy(table->line, data, size);
-        table->lines = size / sizeof(struct line);
-        return;
-    }
-    char *at = (char *)data;
-    uint32_t words_read = 0, *to = table->line[0].word;
-    while (*at && words_read < MOST_LINES * WORDS) {
-        if (strspn(at, "0123456789abcdef") != 8 || !strchr(" \n", at[8]) || !at[8] || (at[8] == '\n') != (words_read % WORDS == WORDS - 1))
-            refuse("line %u of the table is not %d words of 8 hexadecimal digits", words_read / WORDS + 1, WORDS);
-        to[words_read++] = strtoul(at, NULL, 16);
-        at += 9;
-    }
-    if (*at || !words_read || words_read % WORDS)
-        refuse("a table has 1 to %d lines of %d words", MOST_LINES, WORDS);
-    table->lines = words_read / WORDS;
-    free(data);
-}
-
-/* Adds a start to a row; the refusals are those of each way to say a row. */
-static void add_start(struct table *table, uint32_t start, uint32_t port, uint32_t ports) {
-    if (table->count == STARTS)
-        refuse("a row has at most %d starts", STARTS);
-    if (start >= table->labels)
-        refuse("the start %u is not a label from 0 to %u", start, table->labels - 1);
-    if (table->count && start <= table->word[table->count - 1] >> 16)
-        refuse("the starts are out of order: %u comes after %u", start, table->word[table->count - 1] >> 16);
-    if (port >= ports)
-        refuse("the start %u leads to port %u, but this node has %u ports: give the table of this node and its ports", start,
-               port, ports);
-    table->word[table->count++] = start << 16 | port;
-}
-
-static void refuse_ports_gone(const struct table *table) {
-    int map = pinned("ports"), who = pinned("who");
-    uint8_t is_seen[PORTS] = {0};
-    for (uint32_t i = 0; i < table->count; i++) {
-        uint32_t key = table->word[i] & 0xFFFF;
-        struct port port;
-        char name[IFNAMSIZ];
-        if (is_seen[key])
-            continue;
-        is_seen[key] = 1;
-        struct who it = who_at(who, NEIGHBOURS + key);
-        if (bpf_map_lookup_elem(map, &key, &port) || !if_indextoname(port.ifindex, name) || port.ifindex != it.ifindex)
-            refuse("the device %s of port %u is gone: take the plane down, and bring it up with the present devices", it.device, key);
-    }
-    close(map);
-    close(who);
-}
-
-/* Checks a table's head, and reads the row that its lowest lines say. */
-static void read_row_of_lines(struct table *table, uint32_t epoch, uint32_t ports) {
-    const uint32_t *head = table->line[0].word;
-    uint32_t depth = head[HEAD_DEPTH], first = depth == 2 ? head[HEAD_BASE] : 1;
-    table->labels = head[HEAD_LABELS], table->own = head[HEAD_OWN];
-    table->word = room(STARTS, 4);
-    if (head[HEAD_EPOCH] != epoch)
-        refuse("the table is of epoch %u, not of epoch %u", head[HEAD_EPOCH], epoch);
-    if (table->labels < 1 || table->labels > LABELS || table->own >= table->labels)
-        refuse("a table has 1 to %d labels, and its own label is one of them: not %u labels and own label %u", LABELS, table->labels, table->own);
-    if (depth > 2 && depth != BYTES)
-        refuse("the depth of a table is 0, 1, 2 or %d, not %u", BYTES, depth);
-    if (depth == BYTES) {
-        if (table->lines != 1 + (table->labels + 127) / 128)
-            refuse("a table of %u labels as bytes has %u lines, not %u", table->labels, 1 + (table->labels + 127) / 128, table->lines);
-        const uint8_t *bytes = (const uint8_t *)table->line[1].word;
-        for (uint32_t i = 0; i < table->labels; i++)
-            if (i == 0 || bytes[i] != bytes[i - 1])
-                add_start(table, i, bytes[i], ports);
-        return;
-    }
-    if ((depth == 0) != (table->lines == 1) || first > table->lines)
-        refuse("a table of depth %u cannot have %u lines", depth, table->lines);
-    const uint32_t *leaf = depth ? table->line[first].word : head + HEAD_WORDS;
-    uint32_t most = depth ? (table->lines - first) * WORDS : HEAD_WORDS;
-    for (uint32_t i = 0; i < most && leaf[i] != NO_WORD; i++)
-        add_start(table, leaf[i] >> 16, leaf[i] & 0xFFFF, ports);
-    if (table->count && table->word[0] >> 16)
-        refuse("the first start of a table is 0, not %u", table->word[0] >> 16);
-}
-
-/* A row that is given beside its lines: the kernel is then asked for what the row says. */
-static void read_row(struct table *table, const char *path, uint32_t ports) {
-    FILE *file = fopen(path, "r");
-    uint32_t labels, own, start, port;
-    if (!file)
-        refuse("%s: %s", path, strerror(errno));
-    if (fscanf(file, "%u %u", &labels, &own) != 2)
-        refuse("%s is not a row: its first line must be LABELS OWN", path);
-    if (labels != table->labels || own != table->own)
-        refuse("the table is for label %u of %u, but the row is for label %u of %u: one of them belongs to another node", table->own,
-               table->labels, own, labels);
-    table->count = 0;
-    while (fscanf(file, "%u %u", &start, &port) == 2)
-        add_start(table, start, port, ports);
-    if (!feof(file))
-        refuse("%s is not a row: each line after the first must be START PORT", path);
-    fclose(file);
-}
-
-static struct table read_table(uint32_t epoch, const char *row) {
-    struct table table = {0};
-    uint32_t ports = entries_of(pinned("who")) - NEIGHBOURS;
-    read_lines(&table);
-    read_row_of_lines(&table, epoch, ports);
-    if (row)
-        read_row(&table, row, ports);
-    refuse_ports_gone(&table);
-    return table;
-}
+#include "given.h"
 
 /* The port of each label by a row: that of the last start at or below it, and below the first start that of the last one. */
 static uint16_t *ports_by(const struct table *table) {
@@ -534,36 +403,74 @@ static int wrong_label(const struct table *table, uint32_t epoch) {
     return wrong;
 }
 
-/* A map with the lines of a table, which nobody can change any more. */
-static int map_of_lines(const struct table *table) {
-    LIBBPF_OPTS(bpf_map_create_opts, options, .map_flags = BPF_F_INNER_MAP);
-    LIBBPF_OPTS(bpf_map_batch_opts, batch, .elem_flags = BPF_ANY);
-    uint32_t count = table->lines, *keys = room(count, 4);
-    for (uint32_t i = 0; i < count; i++)
-        keys[i] = i;
-    int map = bpf_map_create(BPF_MAP_TYPE_ARRAY, "table", 4, sizeof(struct line), count, &options);
-    if (map < 0 || bpf_map_update_batch(map, keys, table->line, &count, &batch) || bpf_map_freeze(map))
-        refuse_by(errno, "a table");
-    free(keys);
-    return map;
+/* All tables that the kernel has, by their slots, and the map that they stand in: -1 where there is none. */
+struct tables {
+    int map;
+    struct held of[EPOCHS];
+};
+
+/* A program alone changes tables at a time. */
+static void wait_for_others(void) {
+    int folder = open(pins, O_RDONLY | O_DIRECTORY);
+    if (folder >= 0)
+        flock(folder, LOCK_EX); /* until this process ends */
 }
 
-/* The epoch whose table stands in a slot, or -1; `handle` gets the table where it is asked for. */
-static int epoch_in(int epochs, uint32_t slot, int *handle) {
+static struct tables all_tables(const char *folder) {
+    struct tables found = {.map = -1};
     uint32_t id, zero = 0;
-    struct line line;
-    if (bpf_map_lookup_elem(epochs, &slot, &id))
-        return -1;
-    int map = bpf_map_get_fd_by_id(id);
-    if (map < 0 && errno == ENOENT) /* it went meanwhile */
-        return -1;
-    if (map < 0 || bpf_map_lookup_elem(map, &zero, &line))
-        refuse_by(errno, "the table of a slot");
-    if (handle)
-        *handle = map;
-    else
-        close(map);
-    return line.word[HEAD_EPOCH];
+    int outer = pinned_in(folder, "tables");
+    while (!bpf_map_lookup_elem(outer, &zero, &id)) {
+        found.map = bpf_map_get_fd_by_id(id);
+        if (found.map >= 0 || errno != ENOENT) /* else another one took its place meanwhile */
+            break;
+    }
+    close(outer);
+    if (found.map < 0)
+        return found;
+    uint32_t count = entries_of(found.map);
+    struct line *store = room(count, sizeof *store);
+    for (uint32_t at = 0; at < count; at++)
+        if (bpf_map_lookup_elem(found.map, &at, &store[at]))
+            refuse_by(errno, "the tables");
+    for (uint32_t entry = 0; entry <= store[0].word[0]; entry++) {
+        struct held it = held_at(store, entry);
+        if (it.lines)
+            found.of[it.line[0].word[HEAD_EPOCH] % EPOCHS] = it;
+    }
+    free(store);
+    return found;
+}
+
+/* The epoch whose table stands in a slot, or -1. */
+static int epoch_in(const struct tables *tables, uint32_t slot) {
+    const struct held *it = &tables->of[slot];
+    return it->lines ? (int)it->line[0].word[HEAD_EPOCH] : -1;
+}
+
+/* Puts a map with these tables, which nobody can change any more, in the place of the one that is there. A packet sees the one
+ * or the other. When this returns no program runs any more that has seen the old one. */
+static void put_tables(const struct tables *tables) {
+    LIBBPF_OPTS(bpf_map_create_opts, options, .map_flags = BPF_F_INNER_MAP);
+    LIBBPF_OPTS(bpf_map_batch_opts, batch, .elem_flags = BPF_ANY);
+    struct held held[EPOCHS];
+    uint32_t count = 0, lines = 0;
+    for (uint32_t slot = 0; slot < EPOCHS; slot++)
+        if (tables->of[slot].lines)
+            held[count++] = tables->of[slot];
+    struct line *store = stored(held, count, EPOCHS, &lines);
+    uint32_t *keys = room(lines ? lines : 1, 4);
+    for (uint32_t i = 0; i < lines; i++)
+        keys[i] = i;
+    if (!store)
+        refuse("out of memory");
+    int map = bpf_map_create(BPF_MAP_TYPE_ARRAY, "tables", 4, sizeof *store, lines, &options);
+    if (map < 0 || bpf_map_update_batch(map, keys, store, &lines, &batch) || bpf_map_freeze(map))
+        refuse_by(errno, "the tables");
+    put(pinned("tables"), 0, &map, "the tables");
+    close(map);
+    free(store);
+    free(keys);
 }
 
 static void clear_counts(uint32_t slot) {
@@ -577,26 +484,35 @@ static void clear_counts(uint32_t slot) {
 static void install(uint32_t epoch, const char *row) {
     struct table table = read_table(epoch, row);
     uint32_t slot = epoch % EPOCHS;
-    int epochs = pinned("epochs"), there = epoch_in(epochs, slot, NULL), map;
+    wait_for_others();
+    struct tables tables = all_tables(pins);
+    int there = epoch_in(&tables, slot);
     if (there == (int)epoch)
         refuse("epoch %u is already installed: retire it first", epoch);
     if (there >= 0)
         refuse("the slot of epoch %u is taken by epoch %d: retire that one first", epoch, there);
     clear_counts(slot);
-    map = map_of_lines(&table);
-    put(epochs, slot, &map, "the slot of the epoch");
+    tables.of[slot] = (struct held){table.lines, table.line};
+    put_tables(&tables);
     int wrong = wrong_label(&table, epoch);
     if (wrong >= 0) {
-        bpf_map_delete_elem(epochs, &slot);
+        tables.of[slot].lines = 0;
+        put_tables(&tables);
         refuse("the label %d is not forwarded as the row of epoch %u says: the table was removed again", wrong, epoch);
     }
 }
 
+/* All tables, of which that of an epoch has to be one. */
+static struct tables tables_with(uint32_t epoch) {
+    struct tables tables = all_tables(pins);
+    if (epoch_in(&tables, epoch % EPOCHS) != (int)epoch)
+        refuse("epoch %u is not installed", epoch);
+    return tables;
+}
+
 static void check(uint32_t epoch, const char *row) {
     struct table table = read_table(epoch, row);
-    int there = epoch_in(pinned("epochs"), epoch % EPOCHS, NULL);
-    if (there != (int)epoch)
-        refuse("epoch %u is not installed", epoch);
+    tables_with(epoch);
     int wrong = wrong_label(&table, epoch);
     if (wrong >= 0)
         refuse("the label %d is not forwarded as the row of epoch %u says", wrong, epoch);
@@ -604,10 +520,10 @@ static void check(uint32_t epoch, const char *row) {
 
 static void replace(uint32_t epoch) {
     struct table table = read_table(epoch, NULL);
-    int epochs = pinned("epochs"), map = map_of_lines(&table);
-    if (epoch_in(epochs, epoch % EPOCHS, NULL) != (int)epoch)
-        refuse("epoch %u is not installed", epoch);
-    put(epochs, epoch % EPOCHS, &map, "the slot of the epoch");
+    wait_for_others();
+    struct tables tables = tables_with(epoch);
+    tables.of[epoch % EPOCHS] = (struct held){table.lines, table.line};
+    put_tables(&tables);
 }
 
 static struct node node_of(int map) {
@@ -619,41 +535,34 @@ static struct node node_of(int map) {
 }
 
 static void lines_of(uint32_t epoch) {
-    int table;
-    if (epoch_in(pinned("epochs"), epoch % EPOCHS, &table) != (int)epoch)
-        refuse("epoch %u is not installed", epoch);
-    for (uint32_t at = 0, count = entries_of(table); at < count; at++) {
-        struct line line;
-        if (bpf_map_lookup_elem(table, &at, &line))
-            refuse_by(errno, "a table");
+    struct tables tables = tables_with(epoch);
+    const struct held *it = &tables.of[epoch % EPOCHS];
+    for (uint32_t at = 0; at < it->lines; at++)
         for (int i = 0; i < WORDS; i++)
-            printf("%08x%c", line.word[i], i < WORDS - 1 ? ' ' : '\n');
-    }
+            printf("%08x%c", it->line[at].word[i], i < WORDS - 1 ? ' ' : '\n');
 }
 
 static void stamp(uint32_t epoch) {
-    int epochs = pinned("epochs"), map = pinned("node"), table;
+    int map = pinned("node");
     struct node node = node_of(map);
-    uint32_t kept = epoch ? epoch : node.stamp; /* whose table is put once more */
-    int is_there = epoch_in(epochs, kept % EPOCHS, &table) == (int)kept;
-    if (epoch && !is_there)
+    wait_for_others();
+    struct tables tables = all_tables(pins);
+    if (epoch && epoch_in(&tables, epoch % EPOCHS) != (int)epoch)
         refuse("epoch %u is not installed: install it at all nodes before one stamps it", epoch);
     node.stamp = epoch;
     put(map, 0, &node, "the node");
-    /* This call returns when no program runs any more that has read the old stamp. */
-    if (is_there)
-        put(epochs, kept % EPOCHS, &table, "the slot of the epoch");
+    /* The same map once more: this call returns when no program runs any more that has read the old stamp. */
+    if (tables.map >= 0)
+        put(pinned("tables"), 0, &tables.map, "the tables");
 }
 
 static void retire(uint32_t epoch) {
-    int epochs = pinned("epochs");
-    uint32_t slot = epoch % EPOCHS;
-    if (epoch_in(epochs, slot, NULL) != (int)epoch)
-        refuse("epoch %u is not installed", epoch);
+    wait_for_others();
+    struct tables tables = tables_with(epoch);
     if (node_of(pinned("node")).stamp == epoch)
         refuse("the node still stamps its packets with epoch %u: stamp another one first", epoch);
-    if (bpf_map_delete_elem(epochs, &slot))
-        refuse_by(errno, "the slot of the epoch");
+    tables.of[epoch % EPOCHS].lines = 0;
+    put_tables(&tables);
 }
 
 /* Counters */
@@ -672,10 +581,11 @@ static void counts_of(int map, uint32_t slot, uint64_t *sums) {
 }
 
 static void counts(void) {
-    int map = pinned("counts"), epochs = pinned("epochs");
+    int map = pinned("counts");
+    struct tables tables = all_tables(pins);
     for (uint32_t slot = 0; slot < EPOCHS; slot++) {
         uint64_t sums[VERDICTS] = {0}, all = 0;
-        int epoch = epoch_in(epochs, slot, NULL);
+        int epoch = epoch_in(&tables, slot);
         counts_of(map, slot, sums);
         for (int i = 0; i < VERDICTS; i++)
             all += sums[i];
@@ -727,7 +637,8 @@ static void drained(uint32_t epoch, int count, char **folders) {
 }
 
 static void show(void) {
-    int who = pinned("who"), epochs = pinned("epochs");
+    int who = pinned("who");
+    struct tables tables = all_tables(pins);
     struct who self = who_at(who, SELF), host = who_at(who, HOST);
     printf("node %s mode %s host %s own %s stamp %u\n", self.name, modes[self.mode], host.device, self.device,
            node_of(pinned("node")).stamp);
@@ -736,11 +647,9 @@ static void show(void) {
         uint32_t now = if_nametoindex(it.device);
         printf("port %u %s %s%s\n", key - NEIGHBOURS, it.name, it.device, now == it.ifindex ? "" : " gone");
     }
-    for (uint32_t slot = 0; slot < EPOCHS; slot++) {
-        int handle, epoch = epoch_in(epochs, slot, &handle);
-        if (epoch >= 0)
-            printf("epoch %d lines %u\n", epoch, entries_of(handle));
-    }
+    for (uint32_t slot = 0; slot < EPOCHS; slot++)
+        if (epoch_in(&tables, slot) >= 0)
+            printf("epoch %d lines %u\n", epoch_in(&tables, slot), tables.of[slot].lines);
 }
 
 /* Events, for the lab */

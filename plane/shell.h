@@ -1,8 +1,8 @@
 /* shell.h: the way of a packet through a node, for XDP and for tc.
  *
  * Programs know label L as fd00::L. Under way the second group of the address is the epoch, fd00:E::L. The node of the source
- * writes it, and that of the destination takes it off, so sums of UDP and TCP stay right. An epoch's table is read once for a
- * packet, so each packet sees one table at a node. */
+ * writes it, and that of the destination takes it off, so sums of UDP and TCP stay right. The map of all tables is read once for
+ * a packet, so each packet sees one table at a node. store.h says what stands in it. */
 #include <linux/bpf.h>
 #include <linux/if_ether.h>
 #include <linux/in.h>
@@ -21,9 +21,10 @@
 #ifndef TABLE_TYPE /* bench/plane has others, and a ruling for each */
 #define TABLE_TYPE BPF_MAP_TYPE_ARRAY
 #define TABLE_ENTRIES 2
-#define TABLE_FLAGS BPF_F_INNER_MAP /* each table has its own number of lines */
+#define TABLE_FLAGS BPF_F_INNER_MAP /* as many lines as the tables take */
 #define TABLE_KEY sizeof(__u32)
 #define TABLE_VALUE sizeof(struct line)
+#define TABLES 1 /* one map has all tables; where one comes or goes, another map takes its place */
 #endif
 
 struct table {
@@ -35,10 +36,10 @@ struct table {
 };
 struct {
     __uint(type, BPF_MAP_TYPE_ARRAY_OF_MAPS);
-    __uint(max_entries, SLOTS);
+    __uint(max_entries, TABLES);
     __type(key, __u32);
     __array(values, struct table);
-} epochs SEC(".maps");
+} tables SEC(".maps");
 struct {
     __uint(type, BPF_MAP_TYPE_ARRAY);
     __uint(max_entries, 1);
@@ -112,46 +113,69 @@ static __always_inline void report(enum origin origin, struct ipv6hdr *ip, void 
 #ifdef OTHER_RULING
 static __always_inline enum verdict ruling(__u32 epoch, __u32 label, __u32 *port);
 #else
+/* The root of a table: where fewer than 16 words of it are kept, these are put before words that stand for none. */
+static __always_inline void fill(__u32 *root, const __u32 *word, __u32 from, __u64 size) {
+#pragma unroll
+    for (int i = 0; i < ROOT_WORDS; i++) {
+        __u64 is_none = (size - 1 - i) >> 63; /* below 0 from the size on */
+        asm volatile("" : "+r"(is_none));
+        root[i] = word[(from + i) & (WORDS - 1)] | -(__u32)is_none;
+    }
+}
+
 static __always_inline enum verdict ruling(__u32 epoch, __u32 label, __u32 *port) {
-    __u32 at = epoch & (SLOTS - 1);
-    void *table = bpf_map_lookup_elem(&epochs, &at);
-    if (!table)
+    __u32 at = 0;
+    void *store = bpf_map_lookup_elem(&tables, &at);
+    struct line *line = store ? bpf_map_lookup_elem(store, &at) : 0;
+    if (!line || !epoch)
         return NO_EPOCH;
-    at = 0;
-    struct line *line = bpf_map_lookup_elem(table, &at);
-    if (!line)
+    __u32 entry = ENTRY_WORDS * (1 + (epoch & line->word[0] & (SLOTS - 1)));
+    at = entry / WORDS;
+    if (at && !(line = bpf_map_lookup_elem(store, &at)))
         return NO_EPOCH;
-    __u32 verdict = bz_head(line->word, WORDS, epoch, label);
+    const __u32 *it = line->word + (entry & (WORDS - ENTRY_WORDS));
+    __u32 where = it[2], first = it[3] & 0xFFFF, depth = where >> 24, size = where >> 16 & 0xFF, base = it[1] >> 16;
+    __u32 head[HEAD_WORDS] = {it[0] & 0xFFFF, it[1] & 0xFFFF, it[0] >> 16};
+    __u32 verdict = bz_head(head, HEAD_WORDS, epoch, label);
     if (verdict)
         return verdict;
-    __u32 depth = line->word[HEAD_DEPTH], key = label << 16 | 0xFFFF;
+    at = depth == BYTES ? first + label / (4 * WORDS) : (where & 0xFFFF) / WORDS;
+    line = bpf_map_lookup_elem(store, &at);
+    if (!line)
+        return NO_EPOCH;
     if (depth == BYTES) {
-        at = 1 + label / (4 * WORDS);
-        line = bpf_map_lookup_elem(table, &at);
-        if (!line)
-            return NO_EPOCH;
         *port = ((__u8 *)line->word)[label & (4 * WORDS - 1)];
         return FORWARDED;
     }
-    __u64 place = bz_place_16(line->word + HEAD_WORDS, HEAD_WORDS, key);
-    if (!depth) {
-        *port = line->word[HEAD_WORDS + place] & 0xFFFF;
-        return FORWARDED;
+    __u32 key = label << 16 | 0xFFFF, word;
+    __u64 place;
+    if (size == ROOT_WORDS) {
+        const __u32 *root = line->word + (where & ROOT_WORDS);
+        place = bz_place_16(root, ROOT_WORDS, key);
+        word = root[place];
+    } else {
+        __u32 root[ROOT_WORDS];
+        fill(root, line->word, where, size);
+        place = bz_place_16(root, ROOT_WORDS, key);
+        word = root[place];
     }
-    __u32 below = line->word[HEAD_BASE] + place * WORDS;
-    at = 1 + place;
-    line = bpf_map_lookup_elem(table, &at);
-    if (!line)
-        return NO_EPOCH;
-    place = bz_place_32(line->word, WORDS, key);
-    if (depth > 1) {
-        at = below + place;
-        line = bpf_map_lookup_elem(table, &at);
+    if (depth) {
+        __u32 below = first - 1 + base + place * WORDS; /* a table's line 1 is the line `first` of the map */
+        at = first + place;
+        line = bpf_map_lookup_elem(store, &at);
         if (!line)
             return NO_EPOCH;
         place = bz_place_32(line->word, WORDS, key);
+        if (depth > 1) {
+            at = below + place;
+            line = bpf_map_lookup_elem(store, &at);
+            if (!line)
+                return NO_EPOCH;
+            place = bz_place_32(line->word, WORDS, key);
+        }
+        word = line->word[place];
     }
-    *port = line->word[place] & 0xFFFF;
+    *port = word & 0xFFFF;
     return FORWARDED;
 }
 #endif

@@ -13,6 +13,11 @@
 #if FORM != LINES
 #define OTHER_RULING
 #define TABLE_KEY sizeof(__u32)
+#ifdef COLD
+#define TABLES SLOTS /* a map for each table */
+#else
+#define TABLES 64
+#endif
 #endif
 #if FORM == BYTES_OF_ONE
 #define TABLE_TYPE BPF_MAP_TYPE_ARRAY
@@ -46,8 +51,8 @@
 
 #if FORM != LINES
 static __always_inline enum verdict ruling(__u32 epoch, __u32 label, __u32 *port) {
-    __u32 at = epoch & (SLOTS - 1);
-    void *table = bpf_map_lookup_elem(&epochs, &at);
+    __u32 at = epoch & (TABLES - 1);
+    void *table = bpf_map_lookup_elem(&tables, &at);
     if (!table)
         return NO_EPOCH;
 #if FORM == BYTES_OF_ONE
@@ -75,7 +80,7 @@ static __always_inline enum verdict ruling(__u32 epoch, __u32 label, __u32 *port
 
 struct draw {
     __u64 state;
-    __u32 labels, epoch, epochs, pad; /* with epochs above 0 an epoch below is drawn, too */
+    __u32 labels, epoch, epochs, pad; /* with epochs above 0 an epoch from 1 to that is drawn, too */
 };
 struct {
     __uint(type, BPF_MAP_TYPE_ARRAY);
@@ -105,7 +110,7 @@ static __always_inline int draw_into(struct xdp_md *ctx) {
     if (!it || (void *)(ip + 1) > (void *)(long)ctx->data_end)
         return 0;
     it->state = it->state * 6364136223846793005ull + 1442695040888963407ull;
-    ip->daddr.s6_addr16[1] = bpf_htons(it->epochs ? (it->state >> 16 & 0xFFFFFF) * it->epochs >> 24 : it->epoch);
+    ip->daddr.s6_addr16[1] = bpf_htons(it->epochs ? 1 + ((it->state >> 16 & 0xFFFFFF) * it->epochs >> 24) : it->epoch);
     ip->daddr.s6_addr16[7] = bpf_htons((it->state >> 40) * it->labels >> 24);
     ip->hop_limit = 64;
     return 1;

@@ -20,7 +20,7 @@
 #include <time.h>
 #include <unistd.h>
 
-#include "../../plane/plane.h"
+#include "../../plane/store.h"
 
 enum { NONE, TREE, PROVED, LINES_OF_BYTES, PROVED_OF_BYTES, BYTES_OF_ONE, ARRAY, HASH, TRIE, ROUTES, NFTABLES, FORMS };
 static const char *const names[] = {"no look-up",        "intervals, C",  "intervals, proved", "bytes in lines, C", "bytes in lines, proved",
@@ -29,7 +29,7 @@ static const char *const names[] = {"no look-up",        "intervals, C",  "inter
 static const char *const objects[] = {"none", "lines", "proved", "lines", "proved", "bytes", "array", "hash", "trie", "none", "none"};
 enum { XDP, GENERIC, TC };
 static const char *const modes[] = {"XDP", "generic XDP", "tc"};
-enum { EPOCH = 5, DEVICES = 8, MOST = 128 };
+enum { EPOCH = 5, DEVICES = 8, MOST = 128, COLD_SLOTS = 2048, MORE = 15 };
 
 struct draw {
     uint64_t state;
@@ -41,7 +41,7 @@ struct tried {
     uint32_t starts, labels, tables; /* 0 starts: a full table; 0 tables: one, of EPOCH */
     struct bpf_object *object;
     int look, link, tc, pass;
-    uint64_t bytes, lost;
+    uint64_t bytes, more, lost; /* of its map, and of one more table */
     double *times, change;
 };
 
@@ -122,9 +122,37 @@ static int filled(int type, uint32_t value_bytes, uint32_t count, const void *va
     return map;
 }
 
+static int is_of_lines(const struct tried *it) { return it->form >= TREE && it->form <= PROVED_OF_BYTES; }
+
+/* The lines of a row's table, for an epoch. */
+static struct held lines_of(const struct tried *it, uint32_t epoch) {
+    struct held found = {0, calloc(1024, sizeof(struct line))};
+    FILE *file = fopen(path_of(it, "lines"), "r");
+    if (!file)
+        fail(path_of(it, "lines"));
+    found.lines = fread(found.line, sizeof *found.line, 1024, file);
+    fclose(file);
+    found.line[0].word[HEAD_EPOCH] = epoch;
+    return found;
+}
+
+/* A map with so many tables of a row, for epochs from one on. */
+static int map_of_tables(const struct tried *it, uint32_t from, uint32_t tables, uint32_t slots) {
+    struct held *all = calloc(tables, sizeof *all);
+    uint32_t lines = 0;
+    for (uint32_t i = 0; i < tables; i++)
+        all[i] = lines_of(it, from + i);
+    struct line *store = stored(all, tables, slots, &lines);
+    int map = filled(BPF_MAP_TYPE_ARRAY, sizeof *store, lines, store, BPF_F_INNER_MAP, lines);
+    for (uint32_t i = 0; i < tables; i++)
+        free(all[i].line);
+    free(all);
+    free(store);
+    return map;
+}
+
 /* A map with the table of a form for an epoch. */
 static int table_of(const struct tried *it, uint32_t epoch) {
-    static struct line lines[1024];
     uint32_t *words = calloc(it->labels + 1, 4), value, length, port;
     uint8_t *ports = it->form == NONE ? NULL : ports_of(it);
     for (uint32_t i = 0; ports && i < it->labels; i++)
@@ -133,13 +161,7 @@ static int table_of(const struct tried *it, uint32_t epoch) {
     FILE *file;
     switch (it->form) {
     case TREE: case PROVED: case LINES_OF_BYTES: case PROVED_OF_BYTES:
-        file = fopen(path_of(it, "lines"), "r");
-        if (!file)
-            fail(path_of(it, "lines"));
-        value = fread(lines, sizeof *lines, 1024, file);
-        fclose(file);
-        lines[0].word[HEAD_EPOCH] = epoch;
-        map = filled(BPF_MAP_TYPE_ARRAY, sizeof *lines, value, lines, BPF_F_INNER_MAP, value);
+        map = map_of_tables(it, epoch, 1, EPOCHS);
         break;
     case BYTES_OF_ONE:
         ports = realloc(ports, 16384);
@@ -193,15 +215,20 @@ static void ask(const struct tried *it) {
 
 /* Puts many tables in their slots; a batch of puts waits once. */
 static void open_many(const struct tried *it) {
-    uint32_t keys[128], count = 0;
+    uint32_t keys[128], count = 0, zero = 0;
     int maps[128];
-    for (uint32_t epoch = 0; epoch < it->tables; epoch++) {
+    if (is_of_lines(it)) { /* as all tables of a node */
+        int map = map_of_tables(it, 1, it->tables, COLD_SLOTS);
+        put(map_of(it->object, "tables"), &zero, &map);
+        return;
+    }
+    for (uint32_t epoch = 1; epoch <= it->tables; epoch++) {
         keys[count] = epoch, maps[count++] = table_of(it, epoch);
-        if (count < 128 && epoch + 1 < it->tables)
+        if (count < 128 && epoch < it->tables)
             continue;
         LIBBPF_OPTS(bpf_map_batch_opts, batch, .elem_flags = BPF_ANY);
         uint32_t done = count;
-        if (bpf_map_update_batch(map_of(it->object, "epochs"), keys, maps, &done, &batch))
+        if (bpf_map_update_batch(map_of(it->object, "tables"), keys, maps, &done, &batch))
             fail("tables");
         while (count)
             close(maps[--count]);
@@ -223,7 +250,7 @@ static void open_one(struct tried *it, int is_way) {
         put(map_of(it->object, "ports"), &i, &port);
         put(map_of(it->object, "devs"), &i, &port.ifindex);
     }
-    uint32_t zero = 0, slot = EPOCH % EPOCHS;
+    uint32_t zero = 0, slot = is_of_lines(it) ? 0 : EPOCH % EPOCHS;
     struct draw draw = {1, it->labels - 1, EPOCH, it->tables, 0}; /* the last label is the own one */
     put(map_of(it->object, "drawing"), &zero, &draw);
     if (it->tables) {
@@ -232,9 +259,15 @@ static void open_one(struct tried *it, int is_way) {
     }
     double start = seconds();
     int map = table_of(it, EPOCH);
-    put(map_of(it->object, "epochs"), &slot, &map);
+    put(map_of(it->object, "tables"), &slot, &map);
     it->change = seconds() - start;
     it->bytes = bytes_of(map);
+    it->more = it->bytes;
+    if (is_of_lines(it)) { /* what each of so many more takes */
+        int many = map_of_tables(it, EPOCH, 1 + MORE, EPOCHS);
+        it->more = (bytes_of(many) - it->bytes) / MORE;
+        close(many);
+    }
     if (it->form != NONE && it->form < ROUTES)
         ask(it);
 }
@@ -436,7 +469,7 @@ int main(int count, char **words) {
             all[i].times[turn] = is_way ? gone(&all[i], frames) : looked(&all[i], frames);
     double base = 0;
     puts(is_way ? "| Table | By | Starts | Labels | ns a packet | thousand packets a second | Lost of a million |\n|---|---|---|---|---|---|---|"
-                : "| Table | Starts | Labels | ns above none | Bytes | us to install |\n|---|---|---|---|---|---|");
+                : "| Table | Starts | Labels | ns above none | Bytes | of one more table | over the row's words | us to install |\n|---|---|---|---|---|---|---|---|");
     for (int i = 0; i < total; i++) {
         struct tried *it = &all[i];
         qsort(it->times, turns, sizeof(double), by_value);
@@ -449,9 +482,10 @@ int main(int count, char **words) {
             printf("| %s | %s | %s | %u | %.0f | %.0f | %.0f |\n", names[it->form], it->form >= ROUTES ? "kernel" : modes[it->mode], of, it->labels, median,
                    1e6 / median, 1e6 * it->lost / ((double)frames * turns));
         else if (i == 0)
-            printf("| %s | | | %.0f in all | | |\n", names[it->form], median);
+            printf("| %s | | | %.0f in all | | | | |\n", names[it->form], median);
         else
-            printf("| %s | %s | %u | %.0f | %lu | %.0f |\n", names[it->form], of, it->labels, median - base, it->bytes, it->change * 1e6);
+            printf("| %s | %s | %u | %.0f | %lu | %lu | %.2f | %.0f |\n", names[it->form], of, it->labels, median - base, it->bytes, it->more,
+                   it->more / 4.0 / (it->starts ? it->starts : it->labels / 2), it->change * 1e6);
     }
     return 0;
 }

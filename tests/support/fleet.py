@@ -37,7 +37,7 @@ from bentzolu.lab import is_connected, plan_of
 from bentzolu.lab_net import LabError, Network, hardware, links_of, play
 from bentzolu.lab_space import apart, called
 from bentzolu.lab_traffic import Traffic
-from bentzolu.lab_xdp import PROBE
+from bentzolu.lab_xdp import EVENT, FORWARDED, PROBE, XdpNetwork
 from bentzolu.texts import Packet, Segment, write_trace
 
 HERE = pathlib.Path.cwd()
@@ -45,7 +45,8 @@ NEW_NET = 0x40000000
 PINS = "/run/bentzolu-pins"  # in the mounts of a run
 PYTHON = next((it for it in ("/usr/bin/python3", sys.executable) if os.access(it, os.X_OK)), sys.executable)
 MOST_SECONDS = 1100  # of one run
-AT_ONCE = 3  # runs
+AT_ONCE = 4  # runs
+MOST_TIMES = 12  # as long as its transactions by hand a change may take
 PIECE = 4096  # packets that the program judges at once
 MOST_EPOCHS = 64
 KEYS = {"begun": fleet.COUNTER, "committed": fleet.EPOCHS, "flipped": fleet.STAMP, "floor": fleet.FLOOR}
@@ -107,6 +108,24 @@ class Wanted(float):
     """The time at which something was wanted, and the revision of etcd."""
 
     revision = 0
+
+
+class Reported(XdpNetwork):
+    """The packets of a fleet as the programs of its planes report them, since packet sockets do not see what XDP sends on."""
+
+    def __init__(self, b):
+        self.program, self.pins, self.nodes = os.environ["BENTZOLU_XDP"], b.pins, b.nodes
+        self.places = {node: i for i, node in enumerate(b.nodes)}
+
+    def ports(self, node):
+        """The places of a router's neighbours by its ports."""
+        said = subprocess.run([self.program, "--pins", self.pins(node), "show"], capture_output=True, text=True, check=True).stdout
+        return [self.places[line.split()[2]] for line in said.splitlines() if line.startswith("port ")]
+
+    def frames(self, data):
+        near = [self.ports(node) for node in self.nodes]  # of whom an agent's number counts from 1
+        return [(number, hops, node - 1, near[node - 1][port], tag)
+                for number, tag, node, port, hops, verdict, _ in EVENT.iter_unpack(data) if verdict == FORWARDED]
 
 
 def epoch_at(at, tag, stamps, tags):
@@ -360,6 +379,8 @@ class Bench:
             if done.returncode:
                 return (done.stderr.strip().splitlines() or ["it says nothing"])[-1]
         os.environ["BENTZOLU_XDP"] = f"{self.folder}/plane/bentzolu-xdp"
+        if self.plane == "xdp":
+            os.replace(self.folder / "plane/watch.bpf.o", self.folder / "plane/plane.bpf.o")  # which reports each packet
         return None
 
     def try_words(self, *words):
@@ -414,7 +435,8 @@ class Bench:
         pairs = [(a, b) for a in range(len(self.nodes)) for b in range(len(self.nodes)) if a != b]
         random.Random(1).shuffle(pairs)
         self.samples, is_on = [], True
-        with Traffic(self.network, pairs, (self.nodes[0], self.nodes[-1]), self.rate) as traffic:
+        watching = {"watching": Reported(self).watch} if self.plane == "xdp" else {}
+        with Traffic(self.network, pairs, (self.nodes[0], self.nodes[-1]), self.rate, **watching) as traffic:
             def sample():
                 while is_on:
                     self.samples.append((traffic.board.sent, time.monotonic()))
@@ -577,8 +599,8 @@ def changes(number):
     return scenario
 
 
-def faults(b, long=6, phases=("begun", "commit", "flipped")):
-    """Every fault once, each in a change; `long` is how many seconds parts are cut off, or all of etcd stands still."""
+def killed(b):
+    """Agents and controllers are killed, each in a change: controllers between any two phases, where the other one takes over."""
     turn, draw = turn_of(b), random.Random(5)
     node = draw.choice(b.nodes)
 
@@ -593,7 +615,7 @@ def faults(b, long=6, phases=("begun", "commit", "flipped")):
     b.agent(node)
     b.stamped(since)
 
-    for what in phases:  # the controller is killed, and the other one takes over
+    for what in ("begun", "compiled", "commit", "committed", "flipped", "floor"):
         leader = b.events("control", "leads")[-1]["name"].split("-")[0]
         if what == "commit":  # as etcd has the commit, before its log has it
             since, leader = b.dies(what, "control", *next(turn))
@@ -605,6 +627,10 @@ def faults(b, long=6, phases=("begun", "commit", "flipped")):
         b.controller(int(leader[-1]))
         b.until(lambda: b.after(since, "follows", "leads", name=leader), "it stands by")
 
+
+def cut_off(b):
+    """In changes a member of etcd is killed, routers are cut off from etcd for 10 s, and all of etcd stands still for 20 s."""
+    turn, draw = turn_of(b), random.Random(5)
     if b.members > 1:  # a member of etcd is killed, and comes back
         since = b.want(*next(turn))
         b.until_after(since, "begun")
@@ -612,19 +638,20 @@ def faults(b, long=6, phases=("begun", "commit", "flipped")):
         b.stamped(since)
         b.etcd(1, again=True)
 
-    node = draw.choice(b.nodes)  # a router is cut off from etcd
-    since = b.want(*next(turn))
-    b.until_after(since, "begun")
-    b.cut(b.network.space(node))
-    time.sleep(long)
-    b.join(b.network.space(node))
-    b.stamped(since)
+    for what in ("begun", "committed"):
+        node = draw.choice(b.nodes)
+        since = b.want(*next(turn))
+        b.until_after(since, what)
+        b.cut(b.network.space(node))
+        time.sleep(10)
+        b.join(b.network.space(node))
+        b.stamped(since)
 
     since = b.want(*next(turn))  # all of etcd stands still, and goes on
     b.until_after(since, "committed")
     for i in range(1, b.members + 1):
         b.kill(f"etcd{i}", signal.SIGSTOP)
-    time.sleep(2 * long)
+    time.sleep(20)
     for i in range(1, b.members + 1):
         b.kill(f"etcd{i}", signal.SIGCONT)
     b.stamped(since)
@@ -818,6 +845,34 @@ def watched(b):
     count("status --watch --json", None if status == -signal.SIGTERM and len(shown()) > 1 else (status, shown()))
 
 
+OLD_ETCD = """
+import http.server, sys
+class Old(http.server.BaseHTTPRequestHandler):
+    protocol_version = "HTTP/1.1"
+    def do_GET(self):
+        said = b'{"etcdserver": "3.3.11"}'
+        self.send_response(200)
+        self.send_header("Content-Length", str(len(said)))
+        self.end_headers()
+        self.wfile.write(said)
+http.server.HTTPServer((sys.argv[1], 2399), Old).serve_forever()
+"""
+
+
+def old_etcd(b):
+    """An etcd of a version that is not wanted."""
+    b.start("old", "etcd1", [PYTHON, "-c", OLD_ETCD, b.hosts[0]])
+    config = b.folder / "old.conf"
+    config.write_text(f"[etcd]\nendpoints = http://{b.hosts[0]}:2399\n")
+
+    def said():
+        return subprocess.run([PYTHON, "-m", "bentzolu", "fleet", "status", "--config", config], capture_output=True, text=True, check=False).stderr
+    wanted = "is etcd 3.3.11: 3.4 or a later version of 3 is needed"
+    b.until(lambda: wanted in said(), "an etcd of another version is told")
+    b.kill("old")
+    count("an etcd of another version is told", None)
+
+
 def strangers(b):
     """Bad input, each told in a sentence: a second agent with a name, at its router and at another one, rules and rows of another
     program, a port that is not there, records that nobody can read."""
@@ -845,6 +900,7 @@ def strangers(b):
     count("somebody's row in the table goes, and is told", None if told and "a table of its own" in told["why"] else (found, told))
     wrong_port(b, node)
     unknown(b, node)
+    old_etcd(b)
     watched(b)
     said = b.until(lambda: (found := b.try_words("status", "--json")) and json.loads(found)["phase"] == "steady" and found, "it is steady")
     count("status --json", None if {"epochs", "members", "waits", "leader"} <= set(json.loads(said)) else said)
@@ -906,17 +962,17 @@ def run_secure():
     forbidden(b)
 
 
-def run_faults():
+def run_killed():
     b = Bench("nsfnet.edgelist", members=3, wrong=MORTAL)
     b.up(controllers=(1, 2))
-    b.judged("faults", b.run(faults), least=8)
-    count("faults: a clock that jumps is told", None if b.events("agent-", "clock") and b.events("control", "clock") else "nobody tells it")
+    b.judged("killed", b.run(killed), least=8)
+    count("a clock that jumps is told", None if b.events("agent-", "clock") and b.events("control", "clock") else "nobody tells it")
 
 
-def run_faults_large():
-    b = Bench("nsfnet.edgelist", members=3, wrong=MORTAL)
-    b.up(controllers=(1, 2))
-    b.judged("faults at length", b.run(lambda b: faults(b, 10, ("begun", "compiled", "commit", "committed", "flipped", "floor"))), least=10)
+def run_cut():
+    b = Bench("nsfnet.edgelist", members=3)
+    b.up()
+    b.judged("cut off", b.run(cut_off), least=5)
 
 
 def run_links():
@@ -939,12 +995,10 @@ def run_absent():
     b = Bench("abilene.edgelist", agent="lease = 3\nprobe = 1", controller="patience = 2")
     b.up()
     b.judged("absent", b.run(absent), least=4)
-
-
-def run_gone():
-    b = Bench("abilene.edgelist", agent="lease = 3\nprobe = 1", controller="patience = 600")
-    b.up()
-    b.judged("gone", b.run(gone), lambda at, way, goal: way[0] == b.gone, least=3)  # it is not switched off here, and goes on sending
+    b.kill("control1")
+    b.options["controller"] = "patience = 600"
+    b.controller(1)
+    b.judged("gone", b.run(gone), lambda at, way, goal: way[0] == b.gone, least=6)  # it is not switched off here, and goes on sending
 
 
 def gone(b):
@@ -997,11 +1051,12 @@ def restored(b):
     b.stamped(since)
 
 
-def run_restored():
+def run_abilene():
     b = Bench("abilene.edgelist")
     b.up()
-    counts = b.run(restored)
-    b.judged("restored", counts, least=6)
+    b.judged("24 changes, Abilene", b.run(changes(24)), least=25)
+    tell_times(b, "Abilene")
+    b.judged("restored", b.run(restored), least=29)
 
 
 def planes(b):
@@ -1014,28 +1069,32 @@ def planes(b):
     b.kill(f"agent-{node}")
     b.agent(node)
     b.stamped(since)
+    if b.plane == "xdp":  # its reports would go with it
+        return changes(6)(b)
     since = time.monotonic()
     b.note("flushed", node)
     play(f"ip netns exec {b.network.space(node)} {os.environ['BENTZOLU_XDP']} --pins {b.pins(node)} down\n")
     b.until_after(since, "stamped", name=f"agent-{node}")
-    b.change(*next(turn))
+    return b.change(*next(turn))
 
 
-def run_plane():
-    b = Bench("abilene.edgelist", plane="tc", agent="look = 1")
-    why = b.refused_plane()
-    if why:
-        return skip(6, f"a plane in XDP cannot run here: {why}")
-    b.up()
-    b.judged("plane in XDP", b.run(planes), excuse_flushed(b), least=4)
-    node = b.nodes[0]
-    tool = [os.environ["BENTZOLU_XDP"], "--pins", b.pins(node)]
-    said = subprocess.run([*tool, "show"], capture_output=True, text=True, check=False).stdout
-    stamp = json.loads(b.words("status", "--json"))["stamp"]
-    count("plane in XDP: the epoch that all stamp is in the kernel", None if re.search(rf" mode tc .* stamp {stamp}\n(.*\n)*epoch {stamp} ", said) else said)
-    there = subprocess.run(["ip", "netns", "exec", b.network.space(node), "nft", "list", "tables"], capture_output=True, text=True, check=False).stdout
-    count("plane in XDP: no table of nftables", None if "netdev bz" not in there else there)
-    return None
+def run_plane(mode):
+    def work():
+        b = Bench("abilene.edgelist", plane=mode, agent="look = 1")
+        why = b.refused_plane()
+        if why:
+            return skip(6, f"a plane in XDP ({mode}) cannot run here: {why}")
+        b.up()
+        b.judged(f"plane in XDP ({mode})", b.run(planes), excuse_flushed(b), least=4)
+        node = b.nodes[0]
+        tool = [os.environ["BENTZOLU_XDP"], "--pins", b.pins(node)]
+        said = subprocess.run([*tool, "show"], capture_output=True, text=True, check=False).stdout
+        stamp = json.loads(b.words("status", "--json"))["stamp"]
+        is_there = re.search(rf" mode {mode} .* stamp {stamp}\n(.*\n)*epoch {stamp} ", said)
+        count(f"plane in XDP ({mode}): the epoch that all stamp is in the kernel", None if is_there else said)
+        there = subprocess.run(["ip", "netns", "exec", b.network.space(node), "nft", "list", "tables"], capture_output=True, text=True, check=False).stdout
+        return count(f"plane in XDP ({mode}): no table of nftables", None if "netdev bz" not in there else there)
+    return work
 
 
 def run_control():
@@ -1046,21 +1105,45 @@ def run_control():
     count("rows in place, which have to be found", None if set(said) != {"ok"} else counts)
 
 
-def run_many(name, topology, number, **words):
-    def work():
-        b = Bench(topology, **words)
+def run_nsfnet():
+    b = Bench("nsfnet.edgelist")
+    b.up()
+    b.judged("24 changes, NSFNET", b.run(changes(24)), least=25)
+    tell_times(b, "NSFNET")
+    b.judged("links, NSFNET", b.run(lambda b: links(b, 4)), excuse_links(b), least=30)
+    tell_links(b)
+    beside(b, "NSFNET")
+    costs(b, "NSFNET")
+
+
+def run_grid():
+    b = Bench("grid8x8.adjlist", rate=500)
+    b.up()
+    b.judged("24 changes, a grid of 64", b.run(changes(24)), least=25)
+    tell_times(b, "a grid of 64")
+
+
+def run_times():
+    """What has to be reached by the clock, on a machine without other work."""
+    for topology, name, most in (("nsfnet.edgelist", "NSFNET", 0.4), ("grid8x8.adjlist", "a grid of 64", 1.0)):
+        b = Bench(topology)
         b.up()
-        b.judged(name, b.run(changes(number)), least=number)
-        tell_times(b, name)
-        tell_rest(b, name)
-    return work
+        changes(24)(b)
+        took = tell_times(b, name)
+        count(f"times, {name}: from what is wanted to the stamps of all in {most} s", took <= most or f"{took:.3f} s")
+        if name == "NSFNET":
+            links(b, 12)
+            took = tell_links(b)
+            count(f"times, {name}: from a lost carrier to the stamp in 0.5 s", took <= 0.5 or f"{took:.3f} s")
+        for process in b.processes.values():
+            process.kill()
 
 
-def tell_rest(b, name):
-    """What agents cost at rest: of a processor, and memory; and the bytes that a change is for all of them."""
+def costs(b, name):
+    """What agents cost at rest, of a processor and of memory, and the bytes that a change is for each of them."""
     def times():
         found = [pathlib.Path(f"/proc/{it.pid}/stat").read_text().rpartition(")")[2].split() for key, it in b.processes.items() if key.startswith("agent-")]
-        return [int(it[11]) + int(it[12]) for it in found], [int(it[21]) * os.sysconf("SC_PAGE_SIZE") / 1e6 for it in found]
+        return [sum(map(int, it[11:15])) for it in found], [int(it[21]) * os.sysconf("SC_PAGE_SIZE") / 1e6 for it in found]
 
     def carried():
         found = json.loads(subprocess.run(["ip", "-j", "-s", "link"], capture_output=True, text=True, check=True).stdout)
@@ -1068,42 +1151,73 @@ def tell_rest(b, name):
         return sum(it["tx"]["bytes"] for it in mine), sum(it["rx"]["bytes"] for it in mine)
     time.sleep(7)
     (before, _), bytes_before, start = times(), carried(), time.monotonic()
-    time.sleep(20)
+    time.sleep(15)
     (after, memory), rest, seconds = times(), carried(), time.monotonic() - start
     share = sorted((y - x) / os.sysconf("SC_CLK_TCK") / seconds * 100 for x, y in zip(before, after))
     rates = [(y - x) / seconds / len(b.nodes) for x, y in zip(bytes_before, rest)]
     print(f"fleet: {name}: an agent at rest: {share[len(share) // 2]:.2f} % of a processor in the median, {share[-1]:.2f} % at most; "
           f"{max(memory):.0f} MB; {rates[0]:.0f} bytes a second to it, {rates[1]:.0f} from it", flush=True)
     sums, turn = [], turn_of(b)
-    for _ in range(4):
+    for _ in range(3):
         start, before = time.monotonic(), carried()
         b.change(*next(turn))
-        time.sleep(7)
+        time.sleep(4)
         spent = time.monotonic() - start
         sums.append([(y - x) / len(b.nodes) - rate * spent for x, y, rate in zip(before, carried(), rates)])
     to, of = ([sorted(it)[len(it) // 2] for it in zip(*sums)])
     print(f"fleet: {name}: a change is {to:.0f} bytes to each agent and {of:.0f} from it, with the heads of packets", flush=True)
+    is_right = share[len(share) // 2] <= 0.5 and max(memory) <= 40 and to <= 6000 and of <= 3500
+    count(f"{name}: an agent at rest, and a change's bytes", None if is_right else (share, memory, to, of))
 
 
-def tell_times(b, name):
-    """How long changes took: from the time they were wanted to the flip, and to the last stamp."""
+def took_of(b, epochs=None):
+    """Of each change, or of those to these epochs, the seconds from its begin to the flip, and to the last stamp."""
     begun = {it["epoch"]: it["t"] for it in b.events("control", "begun")}
     flips = {it["epoch"]: it["t"] for it in b.events("control", "flipped")}
     stamps = defaultdict(list)
     for it in b.events("agent-", "stamped"):
         stamps[it["epoch"]].append(it["t"])
-    rows = sorted((flips[e] - t, max(stamps[e]) - t) for e, t in begun.items() if e in flips and e in stamps)[:-1]
-    if rows:
-        middle = [sorted(it)[len(rows) // 2] for it in zip(*rows)]
-        print(f"fleet: {name}: of {len(rows)} changes, seconds from begun to flipped {middle[0]:.3f} in the median, to stamped by all {middle[1]:.3f}", flush=True)
+    return sorted((flips[e] - t, max(stamps[e]) - t) for e, t in begun.items() if e in flips and e in stamps and (epochs is None or e in epochs))
 
 
-def run_links_large():
-    b = Bench("nsfnet.edgelist")
-    b.up()
-    b.judged("links, NSFNET", b.run(lambda b: links(b, 12)), excuse_links(b), least=20)
-    took = sorted(b.took)
-    print(f"fleet: links, NSFNET: seconds from the carrier to the stamp: {took[len(took) // 2]:.3f} in the median, {took[-1]:.3f} at most", flush=True)
+def median(values):
+    return sorted(values)[len(values) // 2]
+
+
+def tell_times(b, name):
+    """How long changes took, in the median; answers the seconds to the last stamp."""
+    rows = took_of(b)[:-1]
+    flipped, stamped = (median(it) for it in zip(*rows))
+    print(f"fleet: {name}: of {len(rows)} changes, seconds from begun to flipped {flipped:.3f} in the median, to stamped by all {stamped:.3f}", flush=True)
+    return stamped
+
+
+def tell_links(b):
+    """How long it took from a carrier that was lost to the stamp of a plan without the link, in the median."""
+    print(f"fleet: links, NSFNET: seconds from the carrier to the stamp: {median(b.took):.3f} in the median, {max(b.took):.3f} at most", flush=True)
+    return median(b.took)
+
+
+def beside(b, name):
+    """By turns, a change of the fleet and its transactions of nftables by hand, each at all routers at once. A busy machine stretches
+    both, so their ratio is judged."""
+    turn, by_hand, changed = turn_of(b), [], []
+
+    def transactions(node):
+        for _ in range(3):  # the new rows, the stamp, and the old rows
+            nft(b, node, "list", "table", "netdev", "bz")
+    b.change("tree")
+    for _ in range(8):
+        start = time.monotonic()
+        with ThreadPoolExecutor(len(b.nodes)) as pool:
+            list(pool.map(transactions, b.nodes))
+        by_hand.append(time.monotonic() - start)
+        last_epoch = last(b)
+        b.change(*next(turn))
+        changed += [took for _, took in took_of(b, {last_epoch + 1})]
+    ratio = median(changed) / median(by_hand)
+    print(f"fleet: {name}: by turns a change took {median(changed):.3f} s and its transactions by hand {median(by_hand):.3f} s: {ratio:.2f} times", flush=True)
+    count(f"{name}: a change takes at most {MOST_TIMES} times its transactions", None if ratio <= MOST_TIMES else ratio)
 
 
 def documented():
@@ -1258,11 +1372,12 @@ def run_package():
         skip(1, "there is no systemd-analyze")
 
 
-GATE = {"faults": (run_faults, 5), "secure": (run_secure, 8), "links": (run_links, 22), "tags": (run_tags, 4), "docs": (run_docs, 2), "package": (run_package, 3),
-        "plane": (run_plane, 6)}
-LARGE = {**GATE, "absent": (run_absent, 4), "gone": (run_gone, 6), "restored": (run_restored, 5), "control": (run_control, 1), "abilene": (run_many("24 changes, Abilene", "abilene.edgelist", 24), 4),
-         "nsfnet": (run_many("24 changes, NSFNET", "nsfnet.edgelist", 24), 4),
-         "grid": (run_many("24 changes, a grid of 64", "grid8x8.adjlist", 24, rate=500), 4), "links-large": (run_links_large, 4), "faults-large": (run_faults_large, 4)}
+GATE = {  # the long ones first
+    "killed": (run_killed, 5), "grid": (run_grid, 4), "cut": (run_cut, 4), "nsfnet": (run_nsfnet, 10), "abilene": (run_abilene, 9),
+    "absent": (run_absent, 10), "links": (run_links, 23), "docs": (run_docs, 2), "secure": (run_secure, 8), "tags": (run_tags, 4),
+    "control": (run_control, 1), "plane": (run_plane("tc"), 6), "native": (run_plane("xdp"), 6), "package": (run_package, 3),
+}
+LARGE = {**GATE, "times": (run_times, 3)}
 
 
 def in_own_network(name):

@@ -5,6 +5,8 @@ by generic XDP and by tc (plane_node.py beside this file); the same over the pro
 libraries below it are built here, as rt ci leaves them, or over that of the variable MODULE; which modules plane/to_bpf
 refuses; and the lab over each plane, in which no packet may be lost or mixed, and in place some have to be.
 
+    plane.py [--large]      the checks of the gate, or 100 changes under traffic on each of three networks, and in place
+
 It runs at the top of the repository, with python in PYTHONPATH and the program in BENTZOLU_ROUTE. The last line is
 `N passed, M failed` or that and `, K skipped`; the status is above 0 where something differs.
 """
@@ -19,9 +21,10 @@ from bentzolu.lab_xdp import PROBE
 
 TOP = pathlib.Path.cwd()
 ROUTE = os.environ["BENTZOLU_ROUTE"]
-NODE_CHECKS, LAB_CHECKS, MODULE_CHECKS = 206, 5, 10
+NODE_CHECKS, LAB_CHECKS, MODULE_CHECKS = 215, 7, 10
+MOST_SECONDS = 3000 if "--large" in sys.argv else 300  # of a run of the lab
 MODULE = os.environ.pop("MODULE", None)  # of the proved search
-ABILENE = "examples/abilene.edgelist"
+ABILENE, NSFNET, GRID = "examples/abilene.edgelist", "examples/nsfnet.edgelist", "examples/grid8x8.adjlist"
 passed = failed = skipped = 0
 
 
@@ -113,13 +116,15 @@ def of_modules(folder):
         count(f"to_bpf: {what}", None if right else f"status {status}: {said.strip()}")
 
 
-def of_lab(*words, differs=False):
+def of_lab(*words, differs=False, topology=ABILENE):
     """A run of the lab: none is lost or mixed, or in place some are. The first of three that is right: a machine with other work
     may drop packets that it has no time for, and whether a packet meets a row in between is chance."""
     for seed in ("1", "2", "3"):
-        status, output, said = run([sys.executable, "-m", "bentzolu", "lab", "--seconds", "0.5", "--seed", seed, *words, ABILENE])
+        status, output, said = run([sys.executable, "-m", "bentzolu", "lab", "--seconds", "0.5", "--seed", seed, *words, topology], MOST_SECONDS)
         if re.search(r"^lab: cannot run here: ", said, flags=re.M):
             return skip(1, said.strip().splitlines()[-1])
+        if "--large" in sys.argv:
+            print(f"plane: {topology}: lab {' '.join(words)}: {' / '.join(output.splitlines()[-8:])}", flush=True)
         lost, mixed = ([int(it) for it in re.findall(rf"^{name} (\d+)$", output, flags=re.M)] for name in ("lost", "mixed"))
         last = (output.splitlines() or [""])[-1]
         if differs:
@@ -128,38 +133,56 @@ def of_lab(*words, differs=False):
             right = status == 0 and last == "ok" and lost == mixed == [0]
         if right:
             break
-    return count(f"lab {' '.join(words)}", None if right else f"status {status}: {' / '.join(output.splitlines())} {said[-500:]}")
+    return count(f"lab {' '.join(words)} {topology}", None if right else f"status {status}: {' / '.join(output.splitlines())} {said[-500:]}")
 
 
-with tempfile.TemporaryDirectory(prefix="bentzolu-plane-") as work:
-    os.chmod(work, 0o755)  # a user without rights runs the loader, too
-    why = built(f"{work}/c")
+def of_labs():
+    """Changes under traffic over each plane; with --large 100 on each network, and in place on each."""
+    if "--large" in sys.argv:
+        for topology in (ABILENE, NSFNET, GRID):
+            of_lab("--plane", "xdp", "--changes", "100", topology=topology)
+            of_lab("--plane", "xdp", "--in-place", differs=True, topology=topology)
+        return
+    of_lab("--plane", "xdp", "--changes", "10")
+    of_lab("--plane", "xdp", "--changes", "10", topology=NSFNET)
+    of_lab("--plane", "xdp", "--changes", "2", topology=GRID)
+    of_lab("--plane", "generic")
+    of_lab("--plane", "tc")
+    of_lab("--plane", "xdp", "--in-place", differs=True)
+    of_lab("--plane", "nft", "--changes", "2")
+
+
+def of_proved(work, cannot):
+    """The checks of a node over the proved search, by which the lab then runs, too."""
+    given = {"MODULE": MODULE} if MODULE else {"BUILT": "1"}
+    status, _, said = run(["plane/make", *([] if MODULE else ["proved"])], 600, env={**os.environ, **given, "OUT": f"{work}/proved"})
+    count("plane/make proved", None if status == 0 else said[-2000:])
+    if status == 0:
+        if not cannot and "--large" not in sys.argv:
+            of_node(f"{work}/proved", NODE_CHECKS)
+        os.environ["BENTZOLU_XDP"] = f"{work}/proved/bentzolu-xdp"
+
+
+with tempfile.TemporaryDirectory(prefix="bentzolu-plane-") as folder_of_all:
+    os.chmod(folder_of_all, 0o755)  # a user without rights runs the loader, too
+    why = built(f"{folder_of_all}/c")
     if why:
         skip(1 + MODULE_CHECKS + 2 * (NODE_CHECKS + 1) + 1 + LAB_CHECKS, why)
     else:
-        os.environ["BENTZOLU_XDP"] = f"{work}/c/bentzolu-xdp"
-        of_modules(work)
-        cannot = refused_here(f"{work}/c")
-        if cannot:
-            skip(NODE_CHECKS + 1 + LAB_CHECKS, f"cannot run here: {cannot}")
-        else:
-            of_node(f"{work}/c", NODE_CHECKS)
+        os.environ["BENTZOLU_XDP"] = f"{folder_of_all}/c/bentzolu-xdp"
+        of_modules(folder_of_all)
+        refusal = refused_here(f"{folder_of_all}/c")
+        if refusal:
+            skip(NODE_CHECKS + 1 + LAB_CHECKS, f"cannot run here: {refusal}")
+        elif "--large" not in sys.argv:
+            of_node(f"{folder_of_all}/c", NODE_CHECKS)
         if MODULE or is_proved_below():
-            given = {"MODULE": MODULE} if MODULE else {"BUILT": "1"}
-            status, _, said = run(["plane/make", *([] if MODULE else ["proved"])], 600, env={**os.environ, **given, "OUT": f"{work}/proved"})
-            count("plane/make proved", None if status == 0 else said[-2000:])
-            if status == 0 and not cannot:
-                of_node(f"{work}/proved", NODE_CHECKS)
-                os.environ["BENTZOLU_XDP"] = f"{work}/proved/bentzolu-xdp"
+            of_proved(folder_of_all, refusal)
         else:
             skip(NODE_CHECKS + 2, "the libraries of crates/plane_lines are not built")
-        if not cannot and not os.access(ROUTE, os.X_OK):
+        if not refusal and not os.access(ROUTE, os.X_OK):
             skip(LAB_CHECKS, "the program is not built")
-        elif not cannot:
-            of_lab("--plane", "xdp", "--changes", "4")
-            of_lab("--plane", "generic")
-            of_lab("--plane", "tc")
-            of_lab("--plane", "xdp", "--in-place", differs=True)
-            of_lab("--plane", "nft", "--changes", "2")
+        elif not refusal:
+            of_labs()
 print(f"{passed} passed, {failed} failed" + (f", {skipped} skipped" if skipped else ""))
 sys.exit(failed > 0)

@@ -7,6 +7,7 @@ It is run as root in a mount and a network namespace of its own, by tests/plane.
 """
 from __future__ import annotations
 
+import ctypes
 import os
 import random
 import re
@@ -24,6 +25,8 @@ TOOL, OBJECT, ROUTE = sys.argv[1:4]
 PINS = "/run/bpf/n"
 MACS = {"to2": "02:00:00:00:00:02", "to7": "02:00:00:00:00:07"}
 SALT_LAKE_CITY = Row(14, 4, ((0, 0), (5, 1)))
+BPF = {"x86_64": 321, "aarch64": 280}[os.uname().machine]  # the number of bpf(2)
+LIBC = ctypes.CDLL(None, use_errno=True)
 passed = failed = skipped = 0
 
 
@@ -150,6 +153,43 @@ def of_sizes() -> None:
             count(f"{what}: the depth", None if made[0][3] == depth or first else f"{made[0][3]} in place of {depth}")
             taken(what, "install 9 /run/row", lines.as_bytes(made))
             taken(f"{what}: retired", "retire 9")
+
+
+def bytes_of_tables() -> int:
+    """The bytes that the kernel has for all tables of the node."""
+    def bpf(command: int, form: str, *words: int) -> int:
+        attributes = ctypes.create_string_buffer(struct.pack(form, *words), 128)
+        found = LIBC.syscall(BPF, command, attributes, len(attributes))
+        if found < 0:
+            raise OSError(ctypes.get_errno(), f"bpf {command}")
+        return int(found)
+    path, key, number = ctypes.create_string_buffer(f"{PINS}/tables".encode()), ctypes.c_uint32(0), ctypes.c_uint32(0)
+    outer = bpf(7, "QII", ctypes.addressof(path), 0, 0)
+    bpf(1, "IIQQQ", outer, 0, ctypes.addressof(key), ctypes.addressof(number), 0)
+    inner = bpf(14, "III", number.value, 0, 0)
+    try:
+        with open(f"/proc/self/fdinfo/{inner}", encoding="ascii") as file:
+            return int(re.search(r"^memlock:\s*(\d+)$", file.read(), flags=re.M)[1])  # type: ignore
+    finally:
+        os.close(inner)
+        os.close(outer)
+
+
+def of_memory() -> None:
+    """What one more table takes, until a node has 16: its row's words, and an entry of 16 bytes."""
+    for starts, labels in ((4, 512), (16, 2048), (64, 2048), (256, 2048)):
+        row = Row(labels, 1, tuple((at * labels // starts, at % 2) for at in range(starts)))
+        found = []
+        for epoch in range(2, 17):
+            tool(f"install {epoch}", table(row, epoch))
+            found.append(bytes_of_tables())
+        more = (found[-1] - found[0]) / 14
+        most = 1.3 * 4 * starts if starts >= 16 else 4 * starts + 24  # an entry, and what a line has left
+        count(f"memory: one more table of {starts} starts", None if 4 * starts <= more <= most else f"{more} bytes, of {found}")
+        count(f"memory: all of {starts} starts are right", None if all(tool(f"check {it}", table(row, it))[0] == 0 for it in (2, 9, 16)) else "one is not")
+        for epoch in range(2, 17):
+            tool(f"retire {epoch}")
+    count("memory: nothing is left", None if bytes_of_tables() < 1000 else f"{bytes_of_tables()} bytes")
 
 
 def sent(labels: List[int]) -> None:
@@ -301,7 +341,7 @@ def main() -> int:
         sh(f"ip link add {device} type veth peer name far-{device}; ip link set {device} up addrgenmode none; ip link set far-{device} up addrgenmode none")
     sh("ip -6 address add fe80::fffe/64 dev bz0 nodad; ip -6 neigh add fe80::ffff lladdr 02:00:00:01:00:01 dev bz0 nud permanent")
     sh("ip -6 address add fd00::4/128 dev lo nodad; ip -6 route add fd00::/16 via fe80::ffff dev bz0")
-    for part in (of_tables, of_sizes):
+    for part in (of_tables, of_sizes, of_memory):
         part()
     taken("down", "down")
     for mode in ("generic", "tc"):
