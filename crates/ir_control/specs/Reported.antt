@@ -17,7 +17,6 @@ use Rattle.ir_control.specs.Told.{weight_settled}
 pub record AreEmptyPartRows (n ways : ℕ) (rows : PartRows) : Type 0 where
   pub slots_count : length rows.slots.items ≡ n
   pub slots_empty : (k : ℕ) → slice_index_or rows.slots.items k None ≡ None
-  pub outs : (rows.outs.items ≡ []) × (n ≤ vec_capacity rows.outs)
   pub ends : AreEmptyRows n ways rows.ends
 
 -- every node of the net is there
