@@ -135,9 +135,9 @@ drawn =
 abbrev pub prefixed : List Rule
 prefixed = flag (codes "disjoint") ∷ json ∷ []
 
--- the node whose table `xdp` prints
+-- the node whose table `xdp` prints, and whether as bytes
 abbrev pub noded : List Rule
-noded = needed (option (codes "node")) ∷ []
+noded = needed (option (codes "node")) ∷ flag (codes "binary") ∷ []
 
 -- the flags of `check`
 abbrev pub whole_flag : List Rule

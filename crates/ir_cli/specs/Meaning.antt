@@ -120,6 +120,7 @@ pub record Means (name : Text) (rows : List Row) (words : Words) : Type 0 where
   pub to : option_map string_bytes words.to ≡ first_of (codes "to") rows
   pub node : option_map string_bytes words.node ≡ first_of (codes "node") rows
   pub epoch : IsNumberElse (codes "epoch") rows 1 MAX_EPOCH 1 words.epoch
+  pub binary : words.binary ≡ is_set (codes "binary") rows
   pub svg : words.svg ≡ is_set (codes "svg") rows
   pub second : IsSecond (second_word rows) (first_of (codes "root") rows) words.second
   pub disjoint : words.disjoint ≡ is_set (codes "disjoint") rows

@@ -170,6 +170,9 @@ const EPOCH: Taken = taken!("epoch", None, Accepts::Place("E", 1, MAX_EPOCH), Ne
 const LINES_OF: Taken =
     taken!("node", None, Accepts::Word("A"), Need::Must => "The node whose table it is");
 
+const BINARY: Taken = taken!("binary", None, Accepts::Nothing, Need::Free
+    => "Print the table as bytes instead of text, the lowest byte of each word first");
+
 // A run, and its check.
 const RUN_ORDER: Taken =
     taken!("numbering", Some('n'), Accepts::WordOf("NUMBERING", Choice::Numbering), Need::Else("depth-first")
@@ -227,8 +230,9 @@ static RANGES: [Taken; 9] = [
     FORMAT, KIND, LANDMARKS, STRETCH, ROOT, NUMBERING, THREADS, TOPOLOGY, JSON,
 ];
 
-static XDP: [Taken; 11] = [
+static XDP: [Taken; 12] = [
     FORMAT, KIND, LANDMARKS, STRETCH, ROOT, PART, EPOCH, NUMBERING, THREADS, TOPOLOGY, LINES_OF,
+    BINARY,
 ];
 
 static RUN: [Taken; 12] = [

@@ -95,6 +95,8 @@ pub struct Words {
     pub node: Option<String>,
     /// The epoch of those lines, from 1 to 65,535.
     pub epoch: u16,
+    /// Whether those lines are printed as bytes in place of text.
+    pub binary: bool,
     /// Whether they are drawn as SVG, beside `node` alone.
     pub svg: bool,
     /// The plan beside the first, for `stats`; its root is by default that of the first.
@@ -275,6 +277,7 @@ fn words_of(alloc: Global, all: Chosen, found: &ArgMatches<'_>) -> Result<Words,
         to,
         node,
         epoch: all.epoch,
+        binary: is_set(found, "binary"),
         svg: is_set(found, "svg"),
         second,
         disjoint: is_set(found, "disjoint"),
