@@ -139,6 +139,10 @@ prefixed = flag (codes "disjoint") ∷ json ∷ []
 abbrev pub noded : List Rule
 noded = needed (option (codes "node")) ∷ flag (codes "binary") ∷ []
 
+-- the flags of `sim`
+abbrev pub stepped : List Rule
+stepped = flag (codes "steps") ∷ json ∷ []
+
 -- the flags of `check`
 abbrev pub whole_flag : List Rule
 whole_flag = flag (codes "whole") ∷ json ∷ []
@@ -215,7 +219,7 @@ module _ (choices : Choices) where
   rules_of subs.Prefixes = routed ++ shown ++ prefixed ++ telling
   rules_of subs.Ranges = routed ++ shown ++ as_json ++ telling
   rules_of subs.Xdp = routed ++ placed ++ shown ++ noded ++ telling
-  rules_of subs.Sim = routed ++ played ++ as_json ++ telling
+  rules_of subs.Sim = routed ++ played ++ stepped ++ telling
   rules_of subs.Live = routed ++ played ++ as_json ++ telling
   rules_of subs.Check = routed ++ checked ++ whole_flag ++ telling
 

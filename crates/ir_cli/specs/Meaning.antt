@@ -125,6 +125,7 @@ pub record Means (name : Text) (rows : List Row) (words : Words) : Type 0 where
   pub second : IsSecond (second_word rows) (first_of (codes "root") rows) words.second
   pub disjoint : words.disjoint ≡ is_set (codes "disjoint") rows
   pub order_alone : words.order_alone ≡ is_set (codes "order") rows
+  pub steps : words.steps ≡ is_set (codes "steps") rows
   pub whole : words.whole ≡ is_set (codes "whole") rows
   pub explain : words.explain ≡ (is_set (codes "explain") rows && not (is_set (codes "no-explain") rows))
   pub json : words.json ≡ is_set (codes "json") rows

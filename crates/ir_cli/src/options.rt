@@ -190,6 +190,9 @@ const RESTAMPS: Taken =
     taken!("restamps", None, Accepts::Number("R", 0, MAX_RESTAMPS as u16), Need::Else(DEFAULT_RESTAMPS)
     => "Allow each packet R restamps; above 0 the trace lists segments");
 
+const STEPS: Taken = taken!("steps", None, Accepts::Nothing, Need::Free
+    => "Print the reply to each line of the script instead of the trace");
+
 const TWO_TEXTS: Taken = taken!("topology", None, Accepts::File("TOPOLOGY"), Need::Must
     => "Topology file, or - for standard input with topology and script, separated by a line %%");
 
@@ -235,7 +238,12 @@ static XDP: [Taken; 12] = [
     BINARY,
 ];
 
-static RUN: [Taken; 12] = [
+static SIM: [Taken; 13] = [
+    FORMAT, KIND, LANDMARKS, STRETCH, ROOT, RUN_ORDER, CAPACITY, PACKETS, RESTAMPS, TWO_TEXTS,
+    SCRIPT, STEPS, JSON,
+];
+
+static LIVE: [Taken; 12] = [
     FORMAT, KIND, LANDMARKS, STRETCH, ROOT, RUN_ORDER, CAPACITY, PACKETS, RESTAMPS, TWO_TEXTS,
     SCRIPT, JSON,
 ];
@@ -267,7 +275,8 @@ pub fn taken_by(sub: Sub) -> &'static [Taken]
         Sub::Prefixes => PREFIXES.as_slice(),
         Sub::Ranges => RANGES.as_slice(),
         Sub::Xdp => XDP.as_slice(),
-        Sub::Sim | Sub::Live => RUN.as_slice(),
+        Sub::Sim => SIM.as_slice(),
+        Sub::Live => LIVE.as_slice(),
         Sub::Check => CHECK.as_slice(),
     }
 }

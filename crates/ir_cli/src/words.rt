@@ -105,6 +105,8 @@ pub struct Words {
     pub disjoint: bool,
     /// Whether the order of the labels is to stand in place of the rows, for `plan`.
     pub order_alone: bool,
+    /// Whether the replies to the lines of the script are printed in place of the trace, for `sim`.
+    pub steps: bool,
     /// Whether rows are also judged beside the script and each other, for `check`.
     pub whole: bool,
     /// Whether sentences for people are to follow the lines of faults.
@@ -282,6 +284,7 @@ fn words_of(alloc: Global, all: Chosen, found: &ArgMatches<'_>) -> Result<Words,
         second,
         disjoint: is_set(found, "disjoint"),
         order_alone: is_set(found, "order"),
+        steps: is_set(found, "steps"),
         whole: is_set(found, "whole"),
         explain: is_set(found, "explain") && !is_set(found, "no-explain"),
         json: is_set(found, "json"),
