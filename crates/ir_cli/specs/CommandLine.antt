@@ -112,7 +112,7 @@ shown =
 
 -- the flags of `plan`
 abbrev pub ordered : List Rule
-ordered = flag (codes "order") ∷ json ∷ []
+ordered = flag (codes "order") ∷ option (codes "nodes") ∷ json ∷ []
 
 -- the ends of `walk`
 abbrev pub ends : List Rule

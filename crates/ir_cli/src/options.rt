@@ -138,6 +138,9 @@ const TOPOLOGY: Taken = taken!("topology", None, Accepts::File("TOPOLOGY"), Need
 const ORDER: Taken = taken!("order", None, Accepts::Nothing, Need::Free
     => "Print only the nodes, in the order of their labels, as --numbering reads them from a file");
 
+const NODES: Taken = taken!("nodes", None, Accepts::Word("A-B"), Need::Free
+    => "Print only the lines of the nodes A to B, counted from 0 as the topology lists them");
+
 const FROM: Taken =
     taken!("from", None, Accepts::Word("A"), Need::Must => "Start the path at node A");
 
@@ -206,8 +209,8 @@ const TRACE: Taken = taken!("trace", None, Accepts::File("TRACE"), Need::Free =>
 const WHOLE: Taken = taken!("whole", None, Accepts::Nothing, Need::Free
     => "Also check the injects, epochs and causes of drops against the script");
 
-static PLAN: [Taken; 10] = [
-    FORMAT, KIND, LANDMARKS, STRETCH, ROOT, NUMBERING, THREADS, TOPOLOGY, ORDER, JSON,
+static PLAN: [Taken; 11] = [
+    FORMAT, KIND, LANDMARKS, STRETCH, ROOT, NUMBERING, THREADS, TOPOLOGY, ORDER, NODES, JSON,
 ];
 
 static WALK: [Taken; 11] = [

@@ -32,6 +32,7 @@ returns c = λ name are.
       second = c.in_ok-second.ensures;
       disjoint = c.is_set-3.ensures;
       order_alone = c.is_set-4.ensures;
+      nodes = are.nodes;
       steps = c.is_set-5.ensures;
       whole = c.is_set-6.ensures;
       explain = explain;
