@@ -121,6 +121,11 @@ def test_c() -> None:
         try_case(callee, case)
     answer = callee.call(["live", "network", "script"], ["a b\n", "drain\n"], 0)
     count(f"live: {answer}", answer == (3, 0, b"", b"no thread\n", 1))
+    words = ["xdp", "table", "300", "--node", "b", "network"]
+    answer = callee.call(words, ["a b\nb c\n"], 4096)
+    data = b"".join(struct.pack("<I", int(word, 16)) for word in answer[2].split())
+    answer = callee.call([*words, "--binary"], ["a b\nb c\n"], 4096)
+    count(f"a table as bytes: {answer}", answer == (0, 128, data, b"", 1) and data[:4] == b"\x2c\x01\0\0")
     answer = callee.call(["plan", "--kind", "fast", "network"], ["a b\n"], 64)
     count(f"words that are refused: {answer}", answer[:3] == (2, 0, b"") and answer[3].startswith(b"error: "))
     assert callee.process.stdin is not None

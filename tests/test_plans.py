@@ -136,13 +136,14 @@ def test_tours() -> None:
         refused(f"{sub} by a tour from no node", run(call(sub, files, "--numbering", "tour", "--root", "z")), "opening NoNode")
 
 
-def lines_by_python(plan: str, node: str, near: List[str], epoch: int) -> bytes:
-    """The lines of a node's table, as the Python package makes them of the text of `plan`."""
+def lines_by_python(plan: str, node: str, near: List[str], epoch: int) -> Tuple[bytes, bytes]:
+    """The lines of a node's table, as the Python package makes them of the text of `plan`: as text, and as bytes."""
     if os.path.join(TOP, "python") not in sys.path:
         sys.path.append(os.path.join(TOP, "python"))
     from bentzolu import lines, texts
     read = texts.read_plan(plan)
-    return lines.as_text(lines.lines(lines.row_of(read.nodes[node], len(read.nodes), near), epoch)).encode()
+    table = lines.lines(lines.row_of(read.nodes[node], len(read.nodes), near), epoch)
+    return lines.as_text(table).encode(), lines.as_bytes(table)
 
 
 def neighbours(text: str, node: str) -> List[str]:
@@ -169,14 +170,22 @@ def test_lines() -> None:
         for kind, node in ((kind, node) for kind in ("tree", "shortest", "compact") for node in chosen):
             epoch = luck.choice((1, 2, 255, 65535))
             plan = run(["plan", "--kind", kind, net])[0].decode()
-            got = run(["xdp", "table", str(epoch), "--node", node, "--kind", kind, net])
-            expect(f"the lines of {name}, {kind}, {node}", got, lines_by_python(plan, node, neighbours(text, node), epoch), b"", 0)
+            words = ["xdp", "table", str(epoch), "--node", node, "--kind", kind, net]
+            got, wanted = run(words), lines_by_python(plan, node, neighbours(text, node), epoch)
+            expect(f"the lines of {name}, {kind}, {node}", got, wanted[0], b"", 0)
+            expect(f"their bytes of {name}, {kind}, {node}", run([*words, "--binary"]), wanted[1], b"", 0)
             depths.update(got[0].split()[3:4])
     count("lines of each depth", None if {int(it, 16) for it in depths} == {0, 1, 2, 255} else f"{depths}")
     good = put("lined/good", "a b\nb c\n")
     expect("lines into a file", run(["xdp", "table", "1", "--node", "a", "-o", "lined/out", good]), b"", b"", 0)
     with open(work("lined/out"), "rb") as file:
         expect("lines of standard input", run(["xdp", "table", "1", "--node", "a", "-"], b"a b\nb c\n"), file.read(), b"", 0)
+    expect("bytes into a file", run(["xdp", "table", "1", "--node", "a", "--binary", "-o", "lined/bytes", good]), b"", b"", 0)
+    with open(work("lined/bytes"), "rb") as file:
+        data = file.read()
+    count("a line of bytes in a file", None if len(data) == 128 and data[:4] == b"\x01\0\0\0" else brief(data))
+    expect("bytes of standard input", run(["xdp", "table", "1", "--node", "a", "--binary", "-"], b"a b\nb c\n"), data, b"", 0)
+    refused("bytes of no node", run(["xdp", "table", "1", "--node", "z", "--binary", good]), "opening NoNode")
     refused("lines of no node", run(["xdp", "table", "1", "--node", "z", good]), "opening NoNode")
     refused("lines from no root", run(["xdp", "table", "1", "--node", "a", "--root", "z", good]), "opening NoNode")
     refused("lines of parts", run(["xdp", "table", "1", "--node", "a", put("lined/apart", "a b\nc d\n")]), "opening Disconnected")
@@ -184,7 +193,7 @@ def test_lines() -> None:
             f"topology {GRAPH_NODES + 1} TooManyNodes")
     for words_ in (["table", "0"], ["table", "65536"], ["table", "-1"], ["table", "one"], ["tables", "1"], ["1", "table"], ["table"], []):
         expect(f"not understood: xdp {words_}", run(["xdp", *words_, "--node", "a", good]), b"", SOME, 2)
-    for words_ in (["table", "1", good], ["table", "1", "--node", "a", "--json", good], ["table", "1", "--node", "a", "--binary", good],
+    for words_ in (["table", "1", good], ["table", "1", "--node", "a", "--json", good], ["table", "1", "--node", "a", "--binary", "--json", good],
                    ["table", "1", "--node", "a", "--from", "a", good], ["table", "1", "--node", "a", good, good]):
         expect(f"not understood: xdp {words_}", run(["xdp", *words_]), b"", SOME, 2)
 

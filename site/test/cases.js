@@ -69,6 +69,15 @@ function tryWords(engine) {
   told(said.status === 1 && /^topology 2 BadWeight\nroute: network:2: /.test(text(said.faults)), "a sentence behind a fault", text(said.faults));
 }
 
+// A node's table as bytes has the words of its text, the lowest byte of each first.
+function tryTable(engine) {
+  const words = ["xdp", "table", "300", "--node", "b", "network"], network = "a b\nb c\n";
+  const lines = Buffer.from(engine.run(words, network).output).toString().split(/\s/).filter(word => word !== "");
+  const { status, output } = engine.run([...words, "--binary"], network), wanted = Buffer.alloc(4 * lines.length);
+  lines.forEach((word, place) => wanted.writeUInt32LE(parseInt(word, 16), 4 * place));
+  told(status === 0 && output.length === 128 && wanted.equals(Buffer.from(output)), "a table as bytes", `${status} ${output}`);
+}
+
 // What the playback shows at each of its steps are lines that the engine plays to the same end.
 function tryPlayback(engine) {
   const text = bytes => Buffer.from(bytes).toString(), read = name => fs.readFileSync(path.join(root, "examples", name), "utf8");
@@ -91,6 +100,7 @@ async function main() {
   tryPlayback(engine);
   tryWalks(engine);
   tryWords(engine);
+  tryTable(engine);
   tryMemory(engine);
   console.log(`${counts[0]} passed, ${counts[1]} failed`);
   process.exitCode = counts[1] > 0 ? 1 : 0;

@@ -29,8 +29,8 @@ use Rattle.ir_cli.specs.Openings.{topology_fault, topology_graph, root_name, roo
 use Rattle.ir_cli.specs.declared.words.Sub.{Sub}
 use Rattle.ir_cli.specs.declared.words.Sub.TheVariants.{Plan as Planning, Walk, Stats, Compare, Draw, Prefixes, Ranges as Ranging, Xdp, Sim, Live, Check}
 use Rattle.ir_answer.specs.declared.look.Show.{Show}
-use Rattle.ir_answer.specs.declared.look.Show.TheVariants.{Between, Beside, Drawing, Circle, Lines}
-use Rattle.ir_answer.specs.Looks.{from_name, to_name, drawn_name, Says, AnswerShows, AnswersEnds, AnswersBothEnds, AnswersDrawn, AnswersFigures, AnswersShow, AnswersAsked, AnswersLook, AnswersLabels, AreTexts, LookAnswers, IsNode, IsLabelling, AreShown, IsNetwork, IsOneDrawn, IsShow, RefusesLabels, RefusesEnds, RefusesFigures, RefusesShow}
+use Rattle.ir_answer.specs.declared.look.Show.TheVariants.{Between, Beside, Drawing, Circle}
+use Rattle.ir_answer.specs.Looks.{from_name, to_name, drawn_name, Says, AnswerShows, AnswersEnds, AnswersBothEnds, AnswersDrawn, AnswersFigures, AnswersShow, AnswersAsked, AnswersLook, AnswersLabels, AreTexts, LookAnswers, IsNode, IsLabelling, AreShown, IsNetwork, IsOneDrawn, IsShow, lines_shown, RefusesLabels, RefusesEnds, RefusesFigures, RefusesShow}
 use Rattle.ir_plan.specs.Building.{Labelling, FromRoot, ByList, IsPlanBy, RefusesPlan}
 use Rattle.ir_show.specs.Alone.{IsWalkOfPlan}
 use Rattle.ir_answer.specs.Plans.{AnswersText, IsTextOfPlan}
@@ -114,7 +114,7 @@ of_show Draw words g answers show answer is holds = of_drawn (drawn_name words) 
 of_show Prefixes words g answers show answer same holds = subst (λ (s : Show). answers s answer) same holds
 of_show Ranging words g answers show answer same holds = subst (λ (s : Show). answers s answer) same holds
 of_show Xdp words g answers show answer (u, is, same) holds =
-    of_root g (drawn_name words) (λ v. answers (Lines v words.epoch)) answer u is (subst (λ (s : Show). answers s answer) same holds)
+    of_root g (drawn_name words) (λ v. answers (lines_shown words v)) answer u is (subst (λ (s : Show). answers s answer) same holds)
 of_show Compare words g answers show answer none holds = absurd none
 of_show Sim words g answers show answer none holds = absurd none
 of_show Live words g answers show answer none holds = absurd none

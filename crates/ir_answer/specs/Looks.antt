@@ -1,5 +1,6 @@
 -- What a topology comes to as a text that shows its plan: its rows, the order of its labels, a walk, its figures, a
--- drawing, the circle of its labels, its forwarding tables, its ranges of labels, or the lines of a node's row.
+-- drawing, the circle of its labels, its forwarding tables, its ranges of labels, or the lines of a node's row, which may also
+-- be bytes.
 use Rattle.std.specs.Prelude.{◌≡◌, ◌<◌, ℕ, length, Bool, IfSome, List, [], ◌∷◌, Option, None, Some, if◌then◌else◌, string_bytes}
 use Rattle.std.specs.Option.{option_map}
 use Rattle.std.specs.Borrow.{Bor}
@@ -14,7 +15,7 @@ use Rattle.ir_exports.specs.Ring.{circle_dot}
 use Rattle.ir_exports.specs.OrderText.{order_text}
 use Rattle.ir_exports.specs.PrefixesText.{IsPrefixesOf}
 use Rattle.ir_exports.specs.RangesText.{ranges_text}
-use Rattle.ir_exports.specs.LinesText.{IsLinesText}
+use Rattle.ir_exports.specs.LinesText.{AreLinesBytes, IsLinesText}
 use Rattle.ir_cli.specs.declared.words.Words.{Words}
 use Rattle.ir_cli.specs.declared.words.Second.{Second}
 use Rattle.ir_cli.specs.declared.words.Sub.{Sub}
@@ -24,7 +25,7 @@ use Rattle.ir_model.specs.declared.Kind.{Kind}
 use Rattle.ir_cli.specs.Kinds.{detour_of, kind_of}
 use Rattle.ir_plan.specs.declared.tour.LabelOrder.TheVariants.{DepthFirst}
 use Rattle.ir_answer.specs.declared.look.Show.{Show}
-use Rattle.ir_answer.specs.declared.look.Show.TheVariants.{Rows, Between, Figures, Beside, Drawing, Circle, Tables, Ranges, Lines, Order}
+use Rattle.ir_answer.specs.declared.look.Show.TheVariants.{Rows, Between, Figures, Beside, Drawing, Circle, Tables, Ranges, Lines, Bytes, Order}
 use Rattle.ir_script.specs.Order.{IsOrder}
 use Rattle.ir_cli.specs.Answer.{Answer, Ran, Found, Refused, NoThread}
 use Rattle.ir_cli.specs.Openings.{root_name, root_in, kind_asked, label_order, AnswersTopology, AnswersRoot, AnswersOrder}
@@ -86,6 +87,7 @@ Says (Circle u is_svg) nodes plan text = text ≡ circle_text is_svg nodes plan 
 Says (Tables is_disjoint) nodes plan text = IsPrefixesOf is_disjoint nodes plan text
 Says Ranges nodes plan text = text ≡ ranges_text nodes plan
 Says (Lines u epoch) nodes plan text = IsLinesText plan u epoch text
+Says (Bytes u epoch) nodes plan text = AreLinesBytes plan u epoch text
 Says Order nodes plan text = text ≡ order_text nodes plan
 
 -- what an answer says of a plan, by what is shown
@@ -106,7 +108,14 @@ AreAmong n (Circle u is_svg) = u < n
 AreAmong n (Tables is_disjoint) = Unit {0}
 AreAmong n Ranges = Unit {0}
 AreAmong n (Lines u epoch) = u < n
+AreAmong n (Bytes u epoch) = u < n
 AreAmong n Order = Unit {0}
+
+-- what is shown is made whole, as a text
+abbrev pub IsText : Show → Type 0
+IsText Rows = ⊥
+IsText (Bytes u epoch) = ⊥
+IsText show = Unit {0}
 
 -- the answer to a graph, a kind and labels, by what is shown
 abbrev pub AnswersShow : Kind → Adjacency → Labelling → Show → Answer → Type 0
@@ -115,6 +124,10 @@ AnswersShow kind g labels show = AnswersText g kind labels (Says show (names g))
 -- what `plan` shows: the rows, or the order of the labels
 abbrev pub rows_or_order : Words → Show
 rows_or_order words = if words.order_alone then Order else Rows
+
+-- what `xdp` shows: the lines of a node's row, as text or as bytes
+abbrev pub lines_shown : Words → ℕ → Show
+lines_shown words u = if words.binary then Bytes u words.epoch else Lines u words.epoch
 
 -- the subcommands that show a plan
 abbrev pub ShowsPlan : Sub → Type 0
@@ -133,7 +146,7 @@ AnswersAsked Stats words g answers = AnswersFigures (detour_of words.detour (len
 AnswersAsked Draw words g answers = AnswersDrawn (drawn_name words) words.svg (from_name words) (to_name words) g answers
 AnswersAsked Prefixes words g answers = answers (Tables words.disjoint)
 AnswersAsked Ranging words g answers = answers Ranges
-AnswersAsked Xdp words g answers = AnswersRoot g (drawn_name words) (λ u. answers (Lines u words.epoch))
+AnswersAsked Xdp words g answers = AnswersRoot g (drawn_name words) (λ u. answers (lines_shown words u))
 AnswersAsked Compare words g answers = λ answer. ⊥
 AnswersAsked Sim words g answers = λ answer. ⊥
 AnswersAsked Live words g answers = λ answer. ⊥
@@ -207,7 +220,7 @@ IsShow Stats words g show = AreShown (detour_of words.detour (length g)) words.s
 IsShow Draw words g show = IsDrawn words g show
 IsShow Prefixes words g show = show ≡ Tables words.disjoint
 IsShow Ranging words g show = show ≡ Ranges
-IsShow Xdp words g show = (u : ℕ) × IsNode g (drawn_name words) u × (show ≡ Lines u words.epoch)
+IsShow Xdp words g show = (u : ℕ) × IsNode g (drawn_name words) u × (show ≡ lines_shown words u)
 IsShow Compare words g show = ⊥
 IsShow Sim words g show = ⊥
 IsShow Live words g show = ⊥

@@ -95,6 +95,25 @@ pub fn put_text<W: Writer>(
     Ok(write_text(output, formed.as_bytes()))
 }
 
+/// Writes bytes, or the JSON of their lines, and answers whether all of it was taken.
+pub fn put_bytes<W: Writer>(
+    alloc: Global,
+    shape: Option<Shape>,
+    bytes: &[u8],
+    output: &mut W,
+) -> Result<bool, AllocError>
+    ensures { IsTextPut (shaped shape bytes.now) result
+        (Sends W.contents W.wrote W.settled output.old output.new) (output.new ≡ output.old) }
+{
+    match shape {
+        None => Ok(write_text(output, bytes)),
+        Some(shape) => {
+            let json = as_json(alloc, shape, bytes)?;
+            Ok(write_text(output, json.as_bytes()))
+        }
+    }
+}
+
 /// Writes the line of a notice, or its JSON, and answers whether all of it was taken.
 pub fn put_notice<W: Writer>(
     alloc: Global,

@@ -2,7 +2,7 @@
 ghost use Rattle.std.specs.Prelude.{◌≡◌, ◌≢◌, ◌<◌, ℕ, true, IfOk, IfErr, IfSome, IsSome, length, string_bytes};
 ghost use Rattle.ir_model.specs.{Graph.names, Topology.node_count};
 ghost use Rattle.ir_answer.specs.Asked.{look_sources};
-ghost use Rattle.ir_answer.specs.Looks.{from_name, to_name, circle_text, AnswersShow, AreAmong, AreTexts, Says, AnswerShows, order_in, IsNode, IsLabelling, AreShown, IsDrawn, IsShow, RefusesLabels, RefusesEnds, RefusesFigures, RefusesDrawn, RefusesShow, ShowsPlan, LookAnswers, IsFiguresBeside};
+ghost use Rattle.ir_answer.specs.Looks.{from_name, to_name, circle_text, AnswersShow, AreAmong, AreTexts, Says, AnswerShows, order_in, IsNode, IsLabelling, AreShown, IsDrawn, IsShow, IsText, lines_shown, RefusesLabels, RefusesEnds, RefusesFigures, RefusesDrawn, RefusesShow, ShowsPlan, LookAnswers, IsFiguresBeside};
 ghost use Rattle.ir_answer.specs.Stops.{StopsAs, Gives};
 ghost use Rattle.ir_cli.specs.Answer.{Refused};
 ghost use Rattle.ir_model.specs.OfGraph.{topology_of_graph};
@@ -14,7 +14,9 @@ ghost use Rattle.ir_cli.specs.{Kinds.detour_of, Openings.kind_asked, Reading.tex
 use crate::asking::{AnswerStop, opening_stop, read_graph, read_node};
 use ir_cli::{Notice, RunReply, Sub, Words, kind_asked, label_order};
 use ir_core::OpenError;
-use ir_exports::{circle_dot, circle_svg, lines_text, order_text, prefixes_text_by, ranges_text};
+use ir_exports::{
+    circle_dot, circle_svg, lines_bytes, lines_text, order_text, prefixes_text_by, ranges_text,
+};
 use ir_figures::{figures_text, figures_text_beside};
 use ir_graph::Graph;
 use ir_model::Kind;
@@ -45,6 +47,8 @@ pub enum Show {
     Ranges,
     /// The lines of a node's row for an epoch.
     Lines(u16, u16),
+    /// The same as bytes.
+    Bytes(u16, u16),
     /// The order of the labels.
     Order,
 }
@@ -111,7 +115,7 @@ fn circle_text(
     }
 }
 
-/// What is shown of a plan other than its rows.
+/// What is shown of a plan as a text that is made whole.
 fn text_of(
     crew: &impl Crew,
     alloc: Global,
@@ -121,11 +125,11 @@ fn text_of(
 ) -> Result<String, AllocError>
     requires nodes { node_count plan.now.topology ≡ length graph.now }
     requires ends { AreAmong (length graph.now) show }
-    requires no_rows { show ≢ Show.Rows }
+    requires text { IsText show }
     ensures { IfOk result (λ text. Says show (names graph.now) plan.now (string_bytes text)) }
 {
     match show {
-        Show::Rows => unreachable!(),
+        Show::Rows | Show::Bytes(_, _) => unreachable!(),
         Show::Between(from, to) => walk_text(alloc, graph, plan, from, to),
         Show::Figures => figures_text(alloc, graph, plan),
         Show::Beside(kind, root) => beside_text(crew, alloc, graph, plan, (kind, root)),
@@ -149,7 +153,7 @@ fn rows_reply(alloc: Global, graph: Graph, plan: Plan) -> Result<RunReply, Answe
     Ok(RunReply::Plan(text))
 }
 
-/// The answer that shows something other than the rows of a plan, as a text that is made whole.
+/// The answer that shows something other than the rows of a plan, as a text or bytes that are made whole.
 fn text_reply(
     crew: &impl Crew,
     alloc: Global,
@@ -162,6 +166,12 @@ fn text_reply(
     requires no_rows { show ≢ Show.Rows }
     ensures { Gives (AnswerShows show (names graph.now) plan.now) result }
 {
+    if let Show::Bytes(node, epoch) = show {
+        let Ok(bytes) = lines_bytes(alloc, plan, node, epoch) else {
+            return Err(AnswerStop::NoMemory);
+        };
+        return Ok(RunReply::Bytes(bytes));
+    }
     let Ok(text) = text_of(crew, alloc, graph, plan, show) else {
         return Err(AnswerStop::NoMemory);
     };
@@ -257,6 +267,17 @@ fn read_drawing(words: &Words, graph: &Graph) -> Result<Show, AnswerStop>
     Ok(Show::Drawing(Some(ends)))
 }
 
+/// The lines of a node's row, as text or as bytes.
+fn lines_shown(words: &Words, node: u16) -> Show
+    ensures { result ≡ lines_shown words.now node }
+{
+    if words.binary {
+        Show::Bytes(node, words.epoch)
+    } else {
+        Show::Lines(node, words.epoch)
+    }
+}
+
 /// What of a plan is to be shown, with the nodes that the words name.
 fn read_show(sub: Sub, words: &Words, graph: &Graph) -> Result<Show, AnswerStop>
     requires { ShowsPlan sub }
@@ -273,7 +294,7 @@ fn read_show(sub: Sub, words: &Words, graph: &Graph) -> Result<Show, AnswerStop>
         Sub::Ranges => Ok(Show::Ranges),
         Sub::Xdp => {
             let node = read_node(graph, &words.node)?;
-            Ok(Show::Lines(node, words.epoch))
+            Ok(lines_shown(words, node))
         }
         Sub::Walk => {
             let (from, to) = read_ends(words, graph)?;

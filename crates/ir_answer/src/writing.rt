@@ -6,7 +6,7 @@ ghost use Rattle.ir_cli.specs.{Lines.out_of_memory_line, Notices.{told_text, Sho
 ghost use Rattle.ir_answer.specs.{Formed.{in_shape, EndsPut}, Runs.{written_of, GivenAs}};
 
 use crate::asking::AnswerStop;
-use crate::forming::{AnswerForm, put_notice, put_plan, put_text};
+use crate::forming::{AnswerForm, put_bytes, put_notice, put_plan, put_text};
 use ir_cli::{
     Ending, Notice, RunOutcome, RunReply, Told, notice_line, steps_text, tell, tell_fault,
 };
@@ -84,6 +84,11 @@ fn write_reply<C: Crew, W: Writer, F: Writer>(
             let put = put_text(alloc, form.shape, text, output);
             let told = whole(Ending::Done, steps, None);
             ended(put, lines.as_bytes(), told, faults)
+        }
+        RunReply::Bytes(bytes) => {
+            let put = put_bytes(alloc, form.shape, bytes.as_slice(), output);
+            let told = whole(Ending::Done, Vec::new(alloc), None);
+            ended(put, b"", told, faults)
         }
         RunReply::Plan(text) => {
             let put = put_plan(crew, alloc, form, text, output);

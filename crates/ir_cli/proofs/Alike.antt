@@ -14,9 +14,10 @@ use Rattle.ir_cli.specs.declared.words.Sub.TheVariants as subs
 use Rattle.ir_cli.specs.declared.words.NumberingChoice.{NumberingChoice}
 use Rattle.ir_cli.specs.declared.words.NumberingChoice.TheVariants.{DepthFirst, Tour, File}
 use Rattle.ir_cli.specs.declared.words.Second.{Second}
+use Rattle.ir_cli.specs.declared.words.Span.{Span}
 use Rattle.ir_cli.specs.declared.words.Words.{Words}
-use Rattle.ir_cli.specs.Words.{AreTaken, FitsItsKind, alike, has_its_files, has_order, is_dash, is_file, has_landmark, has_script, is_no_dash, may_go_round, takes_detour, takes_drawing, takes_list, takes_numbering, texts_wanted}
-use Rattle.ir_cli.specs.Meaning.{HasItsSecond, IsNumbering, IsSecond, IsKindWord, Means, first_kind, second_kind, numbering_word, second_word}
+use Rattle.ir_cli.specs.Words.{AreTaken, FitsItsKind, alike, has_its_files, has_order, is_dash, is_file, has_landmark, has_script, is_no_dash, may_go_round, takes_detour, takes_drawing, takes_list, takes_nodes, takes_numbering, texts_wanted}
+use Rattle.ir_cli.specs.Meaning.{AreNodes, HasItsNodes, HasItsSecond, HasWhatIsAsked, IsNumbering, IsSecond, IsKindWord, Means, first_kind, nodes_word, second_kind, numbering_word, second_word}
 use Rattle.ir_cli.specs.CommandLine.{sub_word}
 
 -- ---- what a word tells
@@ -137,6 +138,17 @@ second_by_word : (word : Text) (first : Option Text) (second : Option Second) �
 second_by_word word first None none = sym (other_text (second_kind word) (codes "landmark") (λ e. none Landmark (sym e)))
 second_by_word word first (Some second) is = landmark_by_word second.kind (second_kind word) is.0
 
+-- nodes are read of a word, or none are
+are_nodes : (word : Text) (a b : Option Span) → AreNodes word a → AreNodes word b → is_some a ≡ is_some b
+are_nodes word None None is also = refl
+are_nodes word None (Some span) is also = absurd (is span also)
+are_nodes word (Some span) None is also = absurd (also span is)
+are_nodes word (Some span) (Some other) is also = refl
+
+none_too : {X : Type 0} (a b : Option X) → is_some a ≡ is_some b → a ≡ None → b ≡ None
+none_too a None same none = refl
+none_too a (Some x) same none = absurd (true≢false (sym same ∙ ap is_some none))
+
 -- ---- words that mean the same
 
 module _ (name : Text) (rows : List Row) (a b : Words) (is : Means name rows a) (also : Means name rows b) where
@@ -172,11 +184,23 @@ module _ (name : Text) (rows : List Row) (a b : Words) (is : Means name rows a) 
   same_detour : takes_detour a ≡ takes_detour b
   same_detour = ap₂ (λ (said round : Bool). not said || round) (is.detour.said ∙ sym also.detour.said) same_round
 
+  same_span : is_some a.nodes ≡ is_some b.nodes
+  same_span = are_nodes (nodes_word rows) a.nodes b.nodes is.nodes also.nodes
+
+  same_nodes : takes_nodes a ≡ takes_nodes b
+  same_nodes = ap₂ (λ (order some : Bool). not (order && some)) (is.order_alone ∙ sym also.order_alone) same_span
+
   pub taken_too : AreTaken b → AreTaken a
-  taken_too taken = (same_files ∙ taken.0, same_numbering ∙ taken.1, same_drawing ∙ taken.2, same_detour ∙ taken.3)
+  taken_too taken = (same_files ∙ taken.0, same_numbering ∙ taken.1, same_drawing ∙ taken.2, same_detour ∙ taken.3, same_nodes ∙ taken.4)
 
   pub fits_too : FitsItsKind b → FitsItsKind a
   fits_too fits = λ order. ap takes_list kinds ∙ fits (sym same_order ∙ order)
 
-  pub second_too : HasItsSecond rows b → HasItsSecond rows a
+  second_too : HasItsSecond rows b → HasItsSecond rows a
   second_too has = λ asked. no_second (second_word rows) (first_of (codes "root") rows) a.second b.second is.second also.second (has asked)
+
+  nodes_too : HasItsNodes rows b → HasItsNodes rows a
+  nodes_too has = λ asked none. has asked (none_too a.nodes b.nodes same_span none)
+
+  pub asked_too : HasWhatIsAsked rows b → HasWhatIsAsked rows a
+  asked_too has = (second_too has.0, nodes_too has.1)

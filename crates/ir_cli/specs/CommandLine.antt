@@ -112,7 +112,7 @@ shown =
 
 -- the flags of `plan`
 abbrev pub ordered : List Rule
-ordered = flag (codes "order") ∷ json ∷ []
+ordered = flag (codes "order") ∷ option (codes "nodes") ∷ json ∷ []
 
 -- the ends of `walk`
 abbrev pub ends : List Rule
@@ -135,9 +135,13 @@ drawn =
 abbrev pub prefixed : List Rule
 prefixed = flag (codes "disjoint") ∷ json ∷ []
 
--- the node whose table `xdp` prints
+-- the node whose table `xdp` prints, and whether as bytes
 abbrev pub noded : List Rule
-noded = needed (option (codes "node")) ∷ []
+noded = needed (option (codes "node")) ∷ flag (codes "binary") ∷ []
+
+-- the flags of `sim`
+abbrev pub stepped : List Rule
+stepped = flag (codes "steps") ∷ json ∷ []
 
 -- the flags of `check`
 abbrev pub whole_flag : List Rule
@@ -215,7 +219,7 @@ module _ (choices : Choices) where
   rules_of subs.Prefixes = routed ++ shown ++ prefixed ++ telling
   rules_of subs.Ranges = routed ++ shown ++ as_json ++ telling
   rules_of subs.Xdp = routed ++ placed ++ shown ++ noded ++ telling
-  rules_of subs.Sim = routed ++ played ++ as_json ++ telling
+  rules_of subs.Sim = routed ++ played ++ stepped ++ telling
   rules_of subs.Live = routed ++ played ++ as_json ++ telling
   rules_of subs.Check = routed ++ checked ++ whole_flag ++ telling
 

@@ -1,5 +1,5 @@
 -- What the words behind the program's name mean, field by field.
-use Rattle.std.specs.Prelude.{◌≡◌, ◌≢◌, ◌≤◌, ◌==◌, ℕ, Bool, false, not, ◌&&◌, ◌||◌, is_some, if◌then◌else◌, List, [], ◌∷◌, ◌++◌, map, Option, Some, None, MatchOption, unwrap_or, option_map, option_to_list, bytes_eq, codes, string_bytes}
+use Rattle.std.specs.Prelude.{◌≡◌, ◌≢◌, ◌≤◌, ◌<◌, ◌^◌, ◌==◌, ℕ, Bool, false, not, ◌&&◌, ◌||◌, is_some, if◌then◌else◌, List, [], ◌∷◌, ◌++◌, map, Option, Some, None, MatchOption, unwrap_or, option_map, option_to_list, bytes_eq, codes, string_bytes}
 use Rattle.std.specs.Option.{option_map_or, option_or}
 use Rattle.std.specs.List.{list_any, before_first, after_first}
 use Rattle.std.specs.Str.Parse.{IsNumeral, digits_value, without_leading_plus}
@@ -14,6 +14,7 @@ use Rattle.ir_cli.specs.declared.words.Format.TheVariants.{AdjList, EdgeList}
 use Rattle.ir_cli.specs.declared.words.NumberingChoice.{NumberingChoice}
 use Rattle.ir_cli.specs.declared.words.NumberingChoice.TheVariants.{DepthFirst, Tour, File}
 use Rattle.ir_cli.specs.declared.words.Second.{Second}
+use Rattle.ir_cli.specs.declared.words.Span.{Span}
 use Rattle.ir_cli.specs.declared.words.Words.{Words}
 use Rattle.ir_cli.specs.Words.{format_of_name}
 use Rattle.ir_cli.specs.declared.help.Called.{Called}
@@ -104,6 +105,41 @@ IsSecond word first (Some second) =
 abbrev pub HasItsSecond : List Row → Words → Type 0
 HasItsSecond rows words = first_of (codes "with") rows ≢ None → words.second ≢ None
 
+-- a text is a number in decimal, of 64 bits at most
+abbrev pub IsDecimal : Text → ℕ → Type 0
+IsDecimal text n = IsNumeral 10 (without_leading_plus text) × (n ≡ digits_value 10 (without_leading_plus text)) × (n < 2 ^ 64)
+
+-- the word of the nodes whose lines are asked for
+abbrev pub nodes_word : List Row → Text
+nodes_word rows = unwrap_or (first_of (codes "nodes") rows) []
+
+abbrev pub is_hyphen : ℕ → Bool
+is_hyphen byte = byte == 45
+
+-- what stands before its first hyphen, and after it
+abbrev pub span_first : Text → Text
+span_first word = before_first is_hyphen word
+
+abbrev pub span_last : Text → Text
+span_last word = after_first is_hyphen word
+
+-- the word is `A-B`, two numbers of which the second is at least the first
+abbrev pub IsSpan : Text → Span → Type 0
+IsSpan word span = IsDecimal (span_first word) span.first × IsDecimal (span_last word) span.last × (span.first ≤ span.last)
+
+-- The nodes that a word asks for; none where it is no such word.
+abbrev pub AreNodes : Text → Option Span → Type 0
+AreNodes word None = (span : Span) → IsSpan word span → ⊥
+AreNodes word (Some span) = IsSpan word span
+
+-- there are nodes where some are asked for
+abbrev pub HasItsNodes : List Row → Words → Type 0
+HasItsNodes rows words = first_of (codes "nodes") rows ≢ None → words.nodes ≢ None
+
+-- there is what is asked for by a word with two parts
+abbrev pub HasWhatIsAsked : List Row → Words → Type 0
+HasWhatIsAsked rows words = HasItsSecond rows words × HasItsNodes rows words
+
 -- The words of a subcommand of this name, with these options, flags and files, mean this.
 pub record Means (name : Text) (rows : List Row) (words : Words) : Type 0 where
   pub sub : sub_word words.sub ≡ name
@@ -120,10 +156,13 @@ pub record Means (name : Text) (rows : List Row) (words : Words) : Type 0 where
   pub to : option_map string_bytes words.to ≡ first_of (codes "to") rows
   pub node : option_map string_bytes words.node ≡ first_of (codes "node") rows
   pub epoch : IsNumberElse (codes "epoch") rows 1 MAX_EPOCH 1 words.epoch
+  pub binary : words.binary ≡ is_set (codes "binary") rows
   pub svg : words.svg ≡ is_set (codes "svg") rows
   pub second : IsSecond (second_word rows) (first_of (codes "root") rows) words.second
   pub disjoint : words.disjoint ≡ is_set (codes "disjoint") rows
   pub order_alone : words.order_alone ≡ is_set (codes "order") rows
+  pub nodes : AreNodes (nodes_word rows) words.nodes
+  pub steps : words.steps ≡ is_set (codes "steps") rows
   pub whole : words.whole ≡ is_set (codes "whole") rows
   pub explain : words.explain ≡ (is_set (codes "explain") rows && not (is_set (codes "no-explain") rows))
   pub json : words.json ≡ is_set (codes "json") rows
@@ -134,7 +173,7 @@ pub record Means (name : Text) (rows : List Row) (words : Words) : Type 0 where
 -- What was met means this: a subcommand, with its options, flags and files.
 abbrev pub MeansMet : Option (Text × List Row) → Words → Type 0
 MeansMet None words = ⊥
-MeansMet (Some met) words = Means met.0 met.1 words × HasItsSecond met.1 words
+MeansMet (Some met) words = Means met.0 met.1 words × HasWhatIsAsked met.1 words
 
 module _ (called : Called) where
   -- what the parser finds wrong with the words behind the program's name, by the command line

@@ -8,6 +8,7 @@ use Rattle.ir_cli.specs.Notices.{notice_line}
 
 abbrev pub answer_of : RunReply → Answer
 answer_of (replies.Ran text steps) = Ran (string_bytes text) (steps_text steps.items)
+answer_of (replies.Bytes bytes) = Ran bytes.items []
 answer_of (replies.Plan text) = Ran text []
 answer_of (replies.Sound rows) = Ran (ok_line rows) []
 answer_of (replies.Found notice) = Found (notice_line notice)

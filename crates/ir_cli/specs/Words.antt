@@ -102,10 +102,14 @@ may_go_round sub kind second = has_script sub || (is_landmark kind || has_landma
 abbrev pub takes_detour : Words → Bool
 takes_detour words = not words.detour.is_said || may_go_round words.sub words.kind words.second
 
--- the words have the files, the numbering, the drawing and the detour that their subcommand takes
+-- nodes whose lines are to be printed are named only where lines of nodes are
+abbrev pub takes_nodes : Words → Bool
+takes_nodes words = not (words.order_alone && is_some words.nodes)
+
+-- the words have the files, the numbering, the drawing, the detour and the nodes that their subcommand takes
 abbrev pub AreTaken : Words → Type 0
 AreTaken words = (has_its_files words ≡ true) × (takes_numbering words.numbering words.kind (is_some words.root) ≡ true)
-    × (takes_drawing words ≡ true) × (takes_detour words ≡ true)
+    × (takes_drawing words ≡ true) × (takes_detour words ≡ true) × (takes_nodes words ≡ true)
 
 -- the format of a file, by its name
 abbrev pub format_of_name : Name → Format

@@ -3,8 +3,8 @@
 ghost use Rattle.std.specs.Prelude.{◌≡◌, true, false, MatchOption, string_bytes};
 ghost use Rattle.std.specs.List.{list_all};
 ghost use Rattle.clap.specs.Words.{found_of, rows_of};
-ghost use Rattle.ir_cli.specs.Words.{AreTaken, FitsItsKind, has_its_files, has_its_numbering, is_no_dash, may_go_round, takes_detour, takes_drawing, takes_list, texts_wanted};
-ghost use Rattle.ir_cli.specs.Meaning.{HasItsSecond};
+ghost use Rattle.ir_cli.specs.Words.{AreTaken, FitsItsKind, has_its_files, has_its_numbering, is_no_dash, may_go_round, takes_detour, takes_drawing, takes_list, takes_nodes, texts_wanted};
+ghost use Rattle.ir_cli.specs.Meaning.{HasItsNodes, HasItsSecond, HasWhatIsAsked};
 
 use crate::help::{Called, texts_of, usage_of};
 use crate::kinds::KindChoice;
@@ -114,6 +114,17 @@ fn detour_fault(words: &Words) -> Option<&'static str>
     }
 }
 
+/// What is wrong with the nodes whose lines are to be printed, if anything is.
+fn nodes_fault(words: &Words) -> Option<&'static str>
+    ensures { MatchOption result (takes_nodes words.now ≡ true) (λ _. takes_nodes words.now ≡ false) }
+{
+    if words.order_alone && words.nodes.is_some() {
+        Some("'--nodes' cannot be used with '--order'")
+    } else {
+        None
+    }
+}
+
 /// Which files a subcommand of several texts takes.
 fn files_wanted(called: Called, sub: Sub) -> &'static str {
     let texts = texts_of(called);
@@ -141,6 +152,9 @@ pub fn fault_of(called: Called, words: &Words) -> Option<&'static str>
     if let Some(fault) = detour_fault(words) {
         return Some(fault);
     }
+    if let Some(fault) = nodes_fault(words) {
+        return Some(fault);
+    }
     if words.has_order() {
         list_fault(words.kind)
     } else {
@@ -165,7 +179,7 @@ pub fn fault_text(
 }
 
 /// What is wrong with the word for a second plan, if anything is.
-pub fn second_fault(found: &ArgMatches<'_>, words: &Words) -> Option<&'static str>
+fn second_fault(found: &ArgMatches<'_>, words: &Words) -> Option<&'static str>
     ensures { MatchOption result (HasItsSecond (rows_of (found_of found.now)) words.now)
         (λ _. HasItsSecond (rows_of (found_of found.now)) words.now → ⊥) }
 {
@@ -175,5 +189,28 @@ pub fn second_fault(found: &ArgMatches<'_>, words: &Words) -> Option<&'static st
         )
     } else {
         None
+    }
+}
+
+/// What is wrong with the word for the nodes whose lines are to be printed, if anything is.
+fn span_fault(found: &ArgMatches<'_>, words: &Words) -> Option<&'static str>
+    ensures { MatchOption result (HasItsNodes (rows_of (found_of found.now)) words.now)
+        (λ _. HasItsNodes (rows_of (found_of found.now)) words.now → ⊥) }
+{
+    if typed(found, "nodes").is_some() && words.nodes.is_none() {
+        Some("'--nodes' takes two numbers 'A-B', of which B is at least A")
+    } else {
+        None
+    }
+}
+
+/// What is wrong with a word that is no name and no number by itself, if anything is.
+pub fn asked_fault(found: &ArgMatches<'_>, words: &Words) -> Option<&'static str>
+    ensures { MatchOption result (HasWhatIsAsked (rows_of (found_of found.now)) words.now)
+        (λ _. HasWhatIsAsked (rows_of (found_of found.now)) words.now → ⊥) }
+{
+    match second_fault(found, words) {
+        Some(fault) => Some(fault),
+        None => span_fault(found, words),
     }
 }

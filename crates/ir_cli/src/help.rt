@@ -121,6 +121,7 @@ A packet follows the range that holds its label; a node's own label is in no ran
 Printed lines: a line of 32 words for each 128 bytes of the table, in base 16. The first line is a head of 16
 words, the epoch, how many labels there are, the node's own one, the depth and the first line of the lowest level, and a
 root of 16. A word has a start and a port, counted from 0 in the order in which the topology lists the neighbours.
+With --binary a line is 128 bytes, four for each word, of which the lowest is the first.
 
 Example, for a topology with the lines 'a b' and 'b c':
   $ ", $name, " xdp table 1 --node c TOPOLOGY

@@ -31,7 +31,7 @@ pub use parting::cut;
 pub use read::{Source, Unread, read_inputs};
 pub use reply::{RunReply, tell_fault, tell_unread};
 pub use words::{
-    Format, NumberingChoice, Second, Sub, Words, WordsError, read_words, read_words_as,
+    Format, NumberingChoice, Second, Span, Sub, Words, WordsError, read_words, read_words_as,
 };
 pub use write::tell;
 

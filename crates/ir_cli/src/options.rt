@@ -138,6 +138,9 @@ const TOPOLOGY: Taken = taken!("topology", None, Accepts::File("TOPOLOGY"), Need
 const ORDER: Taken = taken!("order", None, Accepts::Nothing, Need::Free
     => "Print only the nodes, in the order of their labels, as --numbering reads them from a file");
 
+const NODES: Taken = taken!("nodes", None, Accepts::Word("A-B"), Need::Free
+    => "Print only the lines of the nodes A to B, counted from 0 as the topology lists them");
+
 const FROM: Taken =
     taken!("from", None, Accepts::Word("A"), Need::Must => "Start the path at node A");
 
@@ -170,6 +173,9 @@ const EPOCH: Taken = taken!("epoch", None, Accepts::Place("E", 1, MAX_EPOCH), Ne
 const LINES_OF: Taken =
     taken!("node", None, Accepts::Word("A"), Need::Must => "The node whose table it is");
 
+const BINARY: Taken = taken!("binary", None, Accepts::Nothing, Need::Free
+    => "Print the table as bytes instead of text, the lowest byte of each word first");
+
 // A run, and its check.
 const RUN_ORDER: Taken =
     taken!("numbering", Some('n'), Accepts::WordOf("NUMBERING", Choice::Numbering), Need::Else("depth-first")
@@ -187,6 +193,9 @@ const RESTAMPS: Taken =
     taken!("restamps", None, Accepts::Number("R", 0, MAX_RESTAMPS as u16), Need::Else(DEFAULT_RESTAMPS)
     => "Allow each packet R restamps; above 0 the trace lists segments");
 
+const STEPS: Taken = taken!("steps", None, Accepts::Nothing, Need::Free
+    => "Print the reply to each line of the script instead of the trace");
+
 const TWO_TEXTS: Taken = taken!("topology", None, Accepts::File("TOPOLOGY"), Need::Must
     => "Topology file, or - for standard input with topology and script, separated by a line %%");
 
@@ -200,8 +209,8 @@ const TRACE: Taken = taken!("trace", None, Accepts::File("TRACE"), Need::Free =>
 const WHOLE: Taken = taken!("whole", None, Accepts::Nothing, Need::Free
     => "Also check the injects, epochs and causes of drops against the script");
 
-static PLAN: [Taken; 10] = [
-    FORMAT, KIND, LANDMARKS, STRETCH, ROOT, NUMBERING, THREADS, TOPOLOGY, ORDER, JSON,
+static PLAN: [Taken; 11] = [
+    FORMAT, KIND, LANDMARKS, STRETCH, ROOT, NUMBERING, THREADS, TOPOLOGY, ORDER, NODES, JSON,
 ];
 
 static WALK: [Taken; 11] = [
@@ -227,11 +236,17 @@ static RANGES: [Taken; 9] = [
     FORMAT, KIND, LANDMARKS, STRETCH, ROOT, NUMBERING, THREADS, TOPOLOGY, JSON,
 ];
 
-static XDP: [Taken; 11] = [
+static XDP: [Taken; 12] = [
     FORMAT, KIND, LANDMARKS, STRETCH, ROOT, PART, EPOCH, NUMBERING, THREADS, TOPOLOGY, LINES_OF,
+    BINARY,
 ];
 
-static RUN: [Taken; 12] = [
+static SIM: [Taken; 13] = [
+    FORMAT, KIND, LANDMARKS, STRETCH, ROOT, RUN_ORDER, CAPACITY, PACKETS, RESTAMPS, TWO_TEXTS,
+    SCRIPT, STEPS, JSON,
+];
+
+static LIVE: [Taken; 12] = [
     FORMAT, KIND, LANDMARKS, STRETCH, ROOT, RUN_ORDER, CAPACITY, PACKETS, RESTAMPS, TWO_TEXTS,
     SCRIPT, JSON,
 ];
@@ -263,7 +278,8 @@ pub fn taken_by(sub: Sub) -> &'static [Taken]
         Sub::Prefixes => PREFIXES.as_slice(),
         Sub::Ranges => RANGES.as_slice(),
         Sub::Xdp => XDP.as_slice(),
-        Sub::Sim | Sub::Live => RUN.as_slice(),
+        Sub::Sim => SIM.as_slice(),
+        Sub::Live => LIVE.as_slice(),
         Sub::Check => CHECK.as_slice(),
     }
 }

@@ -18,6 +18,8 @@ use ir_streams::{NoInput, Writer};
 pub enum RunReply {
     /// The text for the output, and the steps that were refused, by the numbers of their lines.
     Ran(String, Vec<(usize, Refused)>),
+    /// The bytes for the output, which are no text.
+    Bytes(Vec<u8>),
     /// The text of a plan for the output, which is written as it is made.
     Plan(PlanText),
     /// A trace of so many rows has no finding.

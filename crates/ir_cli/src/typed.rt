@@ -5,6 +5,8 @@ ghost use Rattle.clap.specs.Words.{first_of, found_of, rows_of};
 ghost use Rattle.ir_cli.specs.declared.choices.DetourChoice.{DetourChoice};
 ghost use Rattle.ir_cli.specs.declared.kinds.KindChoice.{KindChoice};
 ghost use Rattle.ir_cli.specs.Meaning.{IsDetour, IsFormat, IsKindWord, IsNumber, IsNumberElse, IsNumbering, IsSecond, files_in, is_set, numbering_word, second_kind, second_root, second_word};
+ghost use Rattle.ir_cli.specs.Meaning.{AreNodes, IsDecimal, IsSpan, nodes_word, span_first, span_last};
+ghost use Rattle.ir_cli.specs.declared.words.Span.{Span};
 ghost use Rattle.ir_cli.specs.CommandLine.{sub_word};
 ghost use Rattle.ir_cli.specs.Typed.{AreTyped};
 ghost use Rattle.ir_cli.specs.declared.typed.Chosen.{Chosen};
@@ -13,7 +15,7 @@ ghost use Rattle.ir_cli.specs.declared.words.Sub.{Sub};
 
 use crate::choices::DetourChoice;
 use crate::kinds::KindChoice;
-use crate::words::{Format, NumberingChoice, Second, Sub, format_of_file};
+use crate::words::{Format, NumberingChoice, Second, Span, Sub, format_of_file};
 use crate::{MAX_EPOCH, MAX_LANDMARKS, MAX_STRETCH, MAX_THREADS, MIN_STRETCH};
 use clap::ArgMatches;
 use ir_core::{MAX_CAPACITY, MAX_PACKETS, MAX_RESTAMPS};
@@ -157,6 +159,44 @@ pub fn second_of(alloc: Global, found: &ArgMatches<'_>) -> Result<Option<Second>
     Ok(Some(Second { kind, root }))
 }
 
+/// The number that a text is in decimal, if it is one.
+fn decimal_of(text: &str) -> Option<usize>
+    ensures { MatchOption result ((n : ℕ) → IsDecimal text.now n → ⊥) (λ n. IsDecimal text.now n) }
+{
+    text.parse().ok()
+}
+
+/// What stands before the first hyphen of a word, and what after it.
+fn parts_of_span(word: &str) -> (&str, &str)
+    ensures first { result.0.now ≡ span_first word.now }
+    ensures last { result.1.now ≡ span_last word.now }
+{
+    word.split_once('-').unwrap_or((word, ""))
+}
+
+/// The nodes of a word, if it has two numbers of which the second is at least the first.
+fn span_in(word: &str) -> Option<Span>
+    ensures { MatchOption result ((span : Span) → IsSpan word.now span → ⊥) (λ span. IsSpan word.now span) }
+{
+    let (first, last) = parts_of_span(word);
+    let span = Span {
+        first: decimal_of(first)?,
+        last: decimal_of(last)?,
+    };
+    if span.first <= span.last {
+        Some(span)
+    } else {
+        None
+    }
+}
+
+/// The nodes whose lines are asked for, if there are any.
+fn nodes_of(found: &ArgMatches<'_>) -> Option<Span>
+    ensures { AreNodes (nodes_word (rows_of (found_of found.now))) result }
+{
+    span_in(typed(found, "nodes").unwrap_or(""))
+}
+
 /// The format that is named, else that of the topology's file.
 fn format_of(found: &ArgMatches<'_>) -> Option<Format>
     ensures { MatchOption result ((format : Format) → IsFormat format (rows_of (found_of found.now)) → ⊥)
@@ -220,6 +260,7 @@ pub struct Chosen {
     pub restamps: u8,
     pub threads: Option<usize>,
     pub epoch: u16,
+    pub nodes: Option<Span>,
 }
 
 /// What is chosen or counted by the words of a subcommand of this name, if each of them is a name or a number that is
@@ -238,5 +279,6 @@ pub fn choose(name: &str, found: &ArgMatches<'_>) -> Option<Chosen>
         restamps: number_or(found, "restamps", 0, MAX_RESTAMPS, 0)? as u8,
         threads: number_in(found, "threads", 1, MAX_THREADS as usize)?,
         epoch: number_or(found, "epoch", 1, MAX_EPOCH as usize, 1)? as u16,
+        nodes: nodes_of(found),
     })
 }

@@ -5,7 +5,7 @@ ghost use Rattle.clap.specs.Words.{Text, first_of, found_of, kind_of, rows_of, s
 ghost use Rattle.clap.specs.Walk.{texts};
 ghost use Rattle.clap.specs.declared.error.kind.ErrorKind.TheVariants.{DisplayHelp, DisplayVersion, OutOfMemory};
 ghost use Rattle.ir_cli.specs.Words.{AreTaken, FitsItsKind, file_at, format_of_name, order_name, is_one_input, has_order, words_code};
-ghost use Rattle.ir_cli.specs.Meaning.{Asks, AsksAs, HasItsSecond, Means, MeansMet};
+ghost use Rattle.ir_cli.specs.Meaning.{Asks, AsksAs, HasWhatIsAsked, Means, MeansMet};
 ghost use Rattle.ir_cli.specs.Refusals.{AsksForHelp, AsksForHelpAs, FailsOn, IsMistake, NoneAsked, RefusesAs, RefusesWords};
 ghost use Rattle.ir_cli.specs.CommandLine.{name_of};
 ghost use Rattle.ir_cli.specs.Typed.{AreTyped};
@@ -14,7 +14,7 @@ ghost use Rattle.ir_cli.specs.declared.words.WordsError.TheVariants.{NoMemory};
 
 use crate::choices::DetourChoice;
 use crate::command::route_command;
-use crate::faults::{fault_of, fault_text, second_fault};
+use crate::faults::{asked_fault, fault_of, fault_text};
 use crate::help::Called;
 use crate::kinds::KindChoice;
 use crate::typed::{Chosen, choose, files_of, is_set, numbering_of, second_of, word_of};
@@ -65,6 +65,14 @@ pub struct Second {
     pub root: Option<String>,
 }
 
+/// The nodes from one place to another, both of them in it, by their numbers.
+#[derive(Clone, Copy, Debug, PartialEq, Eq)]
+pub struct Span {
+    pub first: usize,
+    /// At least the first.
+    pub last: usize,
+}
+
 /// What the words ask for. The files are the one word `-`, standard input with all texts, or else
 /// one for each text: the topology, for `sim`, `live` and `check` the script, and for `check` the
 /// trace. Another number of files is refused, and so is `-` beside another file.
@@ -95,6 +103,8 @@ pub struct Words {
     pub node: Option<String>,
     /// The epoch of those lines, from 1 to 65,535.
     pub epoch: u16,
+    /// Whether those lines are printed as bytes in place of text.
+    pub binary: bool,
     /// Whether they are drawn as SVG, beside `node` alone.
     pub svg: bool,
     /// The plan beside the first, for `stats`; its root is by default that of the first.
@@ -103,6 +113,10 @@ pub struct Words {
     pub disjoint: bool,
     /// Whether the order of the labels is to stand in place of the rows, for `plan`.
     pub order_alone: bool,
+    /// The nodes whose lines alone are printed, never beside `order_alone`, for `plan`; all where there are none.
+    pub nodes: Option<Span>,
+    /// Whether the replies to the lines of the script are printed in place of the trace, for `sim`.
+    pub steps: bool,
     /// Whether rows are also judged beside the script and each other, for `check`.
     pub whole: bool,
     /// Whether sentences for people are to follow the lines of faults.
@@ -275,10 +289,13 @@ fn words_of(alloc: Global, all: Chosen, found: &ArgMatches<'_>) -> Result<Words,
         to,
         node,
         epoch: all.epoch,
+        binary: is_set(found, "binary"),
         svg: is_set(found, "svg"),
         second,
         disjoint: is_set(found, "disjoint"),
         order_alone: is_set(found, "order"),
+        nodes: all.nodes,
+        steps: is_set(found, "steps"),
         whole: is_set(found, "whole"),
         explain: is_set(found, "explain") && !is_set(found, "no-explain"),
         json: is_set(found, "json"),
@@ -306,10 +323,10 @@ fn words_named(alloc: Global, name: &str, found: &ArgMatches<'_>) -> Result<Word
 /// What is wrong with the words that were read of a subcommand's options, flags and files, if anything is.
 fn fault_met(called: Called, found: &ArgMatches<'_>, words: &Words) -> Option<&'static str>
     ensures { MatchOption result
-        (HasItsSecond (rows_of (found_of found.now)) words.now × AreTaken words.now × FitsItsKind words.now)
-        (λ _. HasItsSecond (rows_of (found_of found.now)) words.now → AreTaken words.now → FitsItsKind words.now → ⊥) }
+        (HasWhatIsAsked (rows_of (found_of found.now)) words.now × AreTaken words.now × FitsItsKind words.now)
+        (λ _. HasWhatIsAsked (rows_of (found_of found.now)) words.now → AreTaken words.now → FitsItsKind words.now → ⊥) }
 {
-    match second_fault(found, words) {
+    match asked_fault(found, words) {
         Some(fault) => Some(fault),
         None => fault_of(called, words),
     }
@@ -356,6 +373,7 @@ fn all_words<'a>(
 /// - a file's numbering beside a root, on standard input, or of a run;
 /// - a detour where no landmark plan is made;
 /// - a second plan of no kind;
+/// - nodes that are no two numbers, the second at least the first, or beside an order of labels;
 /// - a drawn walk with one end, a node beside a walk, and SVG without a node.
 pub fn read_words_as(alloc: Global, called: Called, words: &[String]) -> Result<Words, WordsError>
     ensures kind { IfOk result (λ words. FitsItsKind words) }

@@ -1,4 +1,4 @@
--- The lines of a node's row, by which a kernel's packet path looks labels up, and their text.
+-- The lines of a node's row, by which a kernel's packet path looks labels up, their text, and their bytes.
 use Rattle.std.specs.Prelude.{◌≡◌, ◌≢◌, ℕ, ◌<◌, List, Some, length}
 use Rattle.ir_model.specs.Compiled.{port_to}
 use Rattle.ir_model.specs.Plan.{Plan, label_in, row_in, by_label}
@@ -6,7 +6,7 @@ use Rattle.ir_model.specs.Topology.{node_count}
 use Rattle.ir_lines.specs.declared.Owner.{Owner}
 use Rattle.ir_lines.specs.Looks.{IsLed, LinesLeadTo}
 use Rattle.ir_lines.specs.Tables.{IsTable}
-use Rattle.ir_lines.specs.Texts.{table_text}
+use Rattle.ir_lines.specs.Texts.{table_bytes, table_text}
 
 -- whose table it is: that of the node u, for an epoch
 abbrev pub owner_of : Plan → ℕ → ℕ → Owner
@@ -25,3 +25,9 @@ pub record IsLinesText (plan : Plan) (u epoch : ℕ) (text : List ℕ) : Type 0 
   pub words : List ℕ
   pub table : IsNodeTable plan u epoch words
   pub whole : text ≡ table_text words
+
+-- the bytes are those of the words of such a table
+pub record AreLinesBytes (plan : Plan) (u epoch : ℕ) (bytes : List ℕ) : Type 0 where
+  pub words : List ℕ
+  pub table : IsNodeTable plan u epoch words
+  pub whole : bytes ≡ table_bytes words

@@ -17,7 +17,7 @@ pub use laws::{
     beginnings_of_lines_keep_to_walks, disjoint_lines_keep_to_walks, lines_go_all_the_way,
     text_is_determined_by_lines,
 };
-pub use node_lines::lines_text;
+pub use node_lines::{lines_bytes, lines_text};
 pub use order::order_text;
 pub use ranges::{ranges_of, ranges_text};
 pub use table::table_of;

@@ -1,9 +1,9 @@
-//! The lines of a node's row, for the look-up in a kernel's packet path, as text.
+//! The lines of a node's row, for the look-up in a kernel's packet path, as text and as bytes.
 ghost use Rattle.std.specs.Prelude.{◌<◌, IfOk, string_bytes};
 ghost use Rattle.ir_model.specs.Topology.{node_count};
-ghost use Rattle.ir_exports.specs.LinesText.{IsLinesText, IsNodeTable};
+ghost use Rattle.ir_exports.specs.LinesText.{AreLinesBytes, IsLinesText, IsNodeTable};
 
-use ir_lines::{Owner, lines, table_text};
+use ir_lines::{Owner, lines, table_bytes, table_text};
 use ir_plan::Plan;
 use std::alloc::{AllocError, Global};
 
@@ -28,4 +28,14 @@ pub fn lines_text(alloc: Global, plan: &Plan, u: u16, epoch: u16) -> Result<Stri
 {
     let words = node_table(alloc, plan, u, epoch)?;
     table_text(alloc, words.as_slice())
+}
+
+/// The same lines as bytes, four for each word, the lowest first, as `ir_lines::table_bytes` writes them: 128 bytes a
+/// line. They are refused for memory alone. Takes O(n log k), for n nodes and k starts.
+pub fn lines_bytes(alloc: Global, plan: &Plan, u: u16, epoch: u16) -> Result<Vec<u8>, AllocError>
+    requires { u < node_count plan.now.topology }
+    ensures { IfOk result (λ bytes. AreLinesBytes plan.now u epoch bytes.items) }
+{
+    let words = node_table(alloc, plan, u, epoch)?;
+    table_bytes(alloc, words.as_slice())
 }

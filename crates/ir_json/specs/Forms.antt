@@ -84,6 +84,7 @@ figure_form words =
 -- the form of the first line of a text
 abbrev pub head_form : Shape → List Name → LineForm
 head_form shapes.Plan words = plain (codes "{$:$,\"nodes\":#,\"intervals\":#,\"rows\":[")
+head_form shapes.Nodes words = plain (codes "{$:$,\"nodes\":#,\"intervals\":#,\"first\":#,\"last\":#,\"rows\":[")
 head_form shapes.Order words = plain (codes "$")
 head_form shapes.Walk words = plain (codes "{$:$,\"from\":$,\"to\":$,\"address\":#,\"weight\":#,\"hops\":[")
 head_form shapes.Stats words = figure_form words
@@ -97,6 +98,7 @@ head_form shapes.Check words = if is_word_at words 0 (codes "ok") then plain (co
 -- the form of a further line, by its place, counted from 0
 abbrev pub row_form : Shape → ℕ → List Name → LineForm
 row_form shapes.Plan place words = listed (codes "{\"node\":$,\"label\":#,\"intervals\":[") (Pairs (codes "{\"start\":#,\"next\":$}"))
+row_form shapes.Nodes place words = listed (codes "{\"node\":$,\"label\":#,\"intervals\":[") (Pairs (codes "{\"start\":#,\"next\":$}"))
 row_form shapes.Order place words = plain (codes "$")
 row_form shapes.Walk place words = if is_empty (word_at words 2) then plain (codes "{\"node\":$,\"label\":#}") else plain (codes "{\"node\":$,\"label\":#,\"start\":#,\"end\":#,\"next\":$,\"weight\":#}")
 row_form shapes.Stats place words = figure_form words

@@ -10,6 +10,8 @@ use crate::words::is;
 
 const PLAN_ROW: &str = "{\"node\":$,\"label\":#,\"intervals\":[";
 
+const NODES_HEAD: &str = "{$:$,\"nodes\":#,\"intervals\":#,\"first\":#,\"last\":#,\"rows\":[";
+
 const WALK_ROW: &str = "{\"node\":$,\"label\":#,\"start\":#,\"end\":#,\"next\":$,\"weight\":#}";
 
 const COMPARED_ROW: &str =
@@ -119,6 +121,7 @@ fn head_form(shape: Shape, line: &[u8]) -> Form
 {
     match shape {
         Shape::Plan => plain("{$:$,\"nodes\":#,\"intervals\":#,\"rows\":["),
+        Shape::Nodes => plain(NODES_HEAD),
         Shape::Order => plain("$"),
         Shape::Walk => plain("{$:$,\"from\":$,\"to\":$,\"address\":#,\"weight\":#,\"hops\":["),
         Shape::Stats => figure_form(line),
@@ -136,7 +139,7 @@ fn row_form(shape: Shape, place: usize, line: &[u8]) -> Form
     ensures { IsForm (row_form shape place (words_of line.now)) result }
 {
     match shape {
-        Shape::Plan => listed(PLAN_ROW, Items::Pairs("{\"start\":#,\"next\":$}")),
+        Shape::Plan | Shape::Nodes => listed(PLAN_ROW, Items::Pairs("{\"start\":#,\"next\":$}")),
         Shape::Order => plain("$"),
         Shape::Walk if word_at(line, 2).is_empty() => plain("{\"node\":$,\"label\":#}"),
         Shape::Walk => plain(WALK_ROW),

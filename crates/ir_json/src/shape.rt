@@ -7,6 +7,8 @@ ghost use Rattle.ir_json.specs.JsonText.{first_row, opening, closing};
 pub enum Shape {
     /// The labels and rows of a plan.
     Plan,
+    /// The labels and rows of some nodes of a plan.
+    Nodes,
     /// The nodes in the order of their labels.
     Order,
     /// A walk.

@@ -182,3 +182,41 @@ fn a_walk_prefixes_and_a_live_run(rt: HostRuntime) {
     let live = (3, "", "no thread\n");
     assert!(rt; prints(rt.alloc(), "live -", "a b\nb c\n%%\ndrain\n", live));
 }
+
+/// What words over a text on standard input print, where they end with status 0.
+fn output_of_words(alloc: Global, words: &Words, text: &str) -> Option<Vec<u8>>
+    requires { FitsItsKind words.now }
+{
+    if sources_of(words).len() != 1 {
+        return None;
+    }
+    let mut inputs = [text.as_bytes()];
+    let mut output: Vec<u8> = Vec::new(alloc);
+    let mut faults: Vec<u8> = Vec::new(alloc);
+    let outcome = follow_by(&Alone, alloc, words, &mut inputs, &mut output, &mut faults);
+    if status_of(outcome.ending) == 0 {
+        Some(output)
+    } else {
+        None
+    }
+}
+
+/// The same of a line of words; none where they are refused.
+fn output_of(alloc: Global, line: &str, text: &str) -> Option<Vec<u8>> {
+    match asked_by(alloc, Called::Route, line) {
+        Ok(words) => output_of_words(alloc, &words, text),
+        Err(_) => None,
+    }
+}
+
+#[test]
+fn a_table_as_bytes(rt: HostRuntime) {
+    let line = "xdp table 258 --node b --binary -";
+    let is_table = match output_of(rt.alloc(), line, "a b\nb c\n") {
+        Some(bytes) => {
+            bytes.len() == 128 && bytes.as_slice().starts_with(&[2, 1, 0, 0, 3, 0, 0, 0, 1])
+        }
+        None => false,
+    };
+    assert!(rt; is_table);
+}

@@ -1,4 +1,5 @@
-use Rattle.std.proofs.Common.{◌≡◌, ◌∙◌, [], string_bytes, refl, sym, ap}
+use Rattle.std.proofs.Common.{◌≡◌, ◌∙◌, ℕ, List, [], string_bytes, refl, sym, ap}
+use Rattle.ir_cli.specs.Answer.{Ran}
 use Rattle.ir_cli.specs.declared.notice.Notice.TheVariants.{Sound}
 use Rattle.ir_cli.specs.Lines.{ok_line, steps_text}
 use Rattle.ir_cli.specs.declared.reply.RunReply.{RunReply}
@@ -15,10 +16,15 @@ returns-in-Ok-clause-told g c =
     c.put_text-put.result
     (ap told_text c.whole-told.ensures.told ∙ ap steps_text (sym c.as_slice.ensures.value) ∙ sym c.in-Ok.ensures ∙ sym c.as_bytes.ensures.value) c.ended.ensures
 
+pub returns-in-Bytes-clause-told : goal.returns-in-Bytes-clause-told
+returns-in-Bytes-clause-told g c =
+    told_behind c.whole-told-in-Bytes.result c.ended-in-Bytes.result _ (Tells g.F.Writer.contents g.F.Writer.wrote g.F.Writer.settled c.args.faults.now c.ended-in-Bytes.new.faults)
+    c.put_bytes-put.result (ap told_text c.whole-told-in-Bytes.ensures.told ∙ ap steps_text c.new.ensures.items) c.ended-in-Bytes.ensures
+
 pub returns-in-Plan-clause-told : goal.returns-in-Plan-clause-told
 returns-in-Plan-clause-told g c =
     told_behind c.whole-told-in-Plan.result c.ended-in-Plan.result _ (Tells g.F.Writer.contents g.F.Writer.wrote g.F.Writer.settled c.args.faults.now c.ended-in-Plan.new.faults)
-    c.put_plan-put.result (ap told_text c.whole-told-in-Plan.ensures.told ∙ ap steps_text c.new.ensures.items) c.ended-in-Plan.ensures
+    c.put_plan-put.result (ap told_text c.whole-told-in-Plan.ensures.told ∙ ap steps_text c.new-in-Plan.ensures.items) c.ended-in-Plan.ensures
 
 pub returns-in-Sound-clause-told : goal.returns-in-Sound-clause-told
 returns-in-Sound-clause-told g c =
@@ -46,12 +52,24 @@ returns-in-Ok-clause-found g c =
     none_behind c.whole-told.result c.ended.result c.as_bytes.result.now (Tells g.F.Writer.contents g.F.Writer.wrote g.F.Writer.settled c.args.faults.now c.ended.new.faults)
     c.put_text-put.result (in_shape c.args.form.shape) (Sends g.W.Writer.contents g.W.Writer.wrote g.W.Writer.settled c.args.output.now c.put_text-put.new.output) c.whole-told.ensures.ending c.whole-told.ensures.found c.ended.ensures
 
+pub returns-in-Bytes-clause-ends : goal.returns-in-Bytes-clause-ends
+returns-in-Bytes-clause-ends g c =
+    let shape = c.args.form.shape in
+    ran_behind c.whole-told-in-Bytes.result c.ended-in-Bytes.result [] (Tells g.F.Writer.contents g.F.Writer.wrote g.F.Writer.settled c.args.faults.now c.ended-in-Bytes.new.faults)
+    c.put_bytes-put.result (in_shape shape (answer_of c.args.reply)) (shaped shape c.as_slice-in-Bytes.result.now) [] (Sends g.W.Writer.contents g.W.Writer.wrote g.W.Writer.settled c.args.output.now c.put_bytes-put.new.output) (c.put_bytes-put.new.output ≡ c.args.output.now)
+    (ap (λ (reply : RunReply). in_shape shape (answer_of reply)) c.in-Bytes.is ∙ ap (λ (text : List ℕ). Ran (shaped shape text) []) (sym c.as_slice-in-Bytes.ensures.value)) c.whole-told-in-Bytes.ensures.ending refl c.put_bytes-put.ensures c.ended-in-Bytes.ensures
+
 pub returns-in-Plan-clause-ends : goal.returns-in-Plan-clause-ends
 returns-in-Plan-clause-ends g c =
     let shape = c.args.form.shape in
     ran_behind c.whole-told-in-Plan.result c.ended-in-Plan.result [] (Tells g.F.Writer.contents g.F.Writer.wrote g.F.Writer.settled c.args.faults.now c.ended-in-Plan.new.faults)
     c.put_plan-put.result (in_shape shape (answer_of c.args.reply)) (shaped shape c.in-Plan.text) [] (Sends g.W.Writer.contents g.W.Writer.wrote g.W.Writer.settled c.args.output.now c.put_plan-put.new.output) (c.put_plan-put.new.output ≡ c.args.output.now)
     (ap (λ (reply : RunReply). in_shape shape (answer_of reply)) c.in-Plan.is) c.whole-told-in-Plan.ensures.ending refl c.put_plan-put.ensures c.ended-in-Plan.ensures
+
+pub returns-in-Bytes-clause-found : goal.returns-in-Bytes-clause-found
+returns-in-Bytes-clause-found g c =
+    none_behind c.whole-told-in-Bytes.result c.ended-in-Bytes.result [] (Tells g.F.Writer.contents g.F.Writer.wrote g.F.Writer.settled c.args.faults.now c.ended-in-Bytes.new.faults)
+    c.put_bytes-put.result (in_shape c.args.form.shape) (Sends g.W.Writer.contents g.W.Writer.wrote g.W.Writer.settled c.args.output.now c.put_bytes-put.new.output) c.whole-told-in-Bytes.ensures.ending c.whole-told-in-Bytes.ensures.found c.ended-in-Bytes.ensures
 
 pub returns-in-Plan-clause-found : goal.returns-in-Plan-clause-found
 returns-in-Plan-clause-found g c =

@@ -1,4 +1,4 @@
-use Rattle.std.proofs.Common.{◌≡◌, ◌∙◌, ◌++◌, List, refl, sym, ap, ⊎_elim}
+use Rattle.std.proofs.Common.{◌≡◌, ◌∙◌, ◌++◌, List, refl, sym, ap}
 use Rattle.ir_cli.specs.declared.options.Choices.{Choices}
 use Rattle.ir_cli.specs.declared.options.Taken.{Taken}
 use Rattle.ir_cli.specs.declared.words.Sub.{Sub}
@@ -36,7 +36,10 @@ pub returns-in-Xdp : goal.returns-in-Xdp
 returns-in-Xdp c = λ choices. has_rules choices c.as_slice-in-Xdp.ensures c.in-Xdp.is refl
 
 pub returns-in-Sim : goal.returns-in-Sim
-returns-in-Sim c = λ choices. ⊎_elim (λ sim. has_rules choices c.as_slice-in-Sim.ensures sim refl) (λ live. has_rules choices c.as_slice-in-Sim.ensures live refl) c.in-Sim.is
+returns-in-Sim c = λ choices. has_rules choices c.as_slice-in-Sim.ensures c.in-Sim.is refl
+
+pub returns-in-Live : goal.returns-in-Live
+returns-in-Live c = λ choices. has_rules choices c.as_slice-in-Live.ensures c.in-Live.is refl
 
 pub returns-in-Check : goal.returns-in-Check
 returns-in-Check c = λ choices. has_rules choices c.as_slice-in-Check.ensures c.in-Check.is refl

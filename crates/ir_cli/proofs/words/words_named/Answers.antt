@@ -12,6 +12,7 @@ returns-in_default-clause-refused c = fails_wider _ _ _ _ c.usage.result (λ _ w
   restamps = words.restamps;
   threads = words.threads;
   epoch = words.epoch;
+  nodes = words.nodes;
 }) (record {
   sub = means.sub;
   format = means.format;
@@ -22,4 +23,5 @@ returns-in_default-clause-refused c = fails_wider _ _ _ _ c.usage.result (λ _ w
   restamps = means.restamps;
   threads = means.threads;
   epoch = means.epoch;
+  nodes = means.nodes;
 })) (λ never. never) c.usage.ensures

@@ -9,8 +9,8 @@ returns c = λ name are.
     let rows = rows_of (found_of c.args.found.now) in
     let silent = is_set (codes "no-explain") rows in
     let explain : c.if-is_set.result ≡ (is_set (codes "explain") rows && not silent) = elim c.if-is_set.branch [
-      | then-is_set w ↦ w.result-is ∙ ap not w.is_set-then-is_set.ensures ∙ ap (λ (b : Bool). b && not silent) (sym w.if-is_set.true ∙ c.is_set-5.ensures)
-      | else-is_set w ↦ w.result-is ∙ w.if-is_set.false ∙ ap (λ (b : Bool). b && not silent) (sym w.if-is_set.false ∙ c.is_set-5.ensures)
+      | then-is_set w ↦ w.result-is ∙ ap not w.is_set-then-is_set.ensures ∙ ap (λ (b : Bool). b && not silent) (sym w.if-is_set.true ∙ c.is_set-7.ensures)
+      | else-is_set w ↦ w.result-is ∙ w.if-is_set.false ∙ ap (λ (b : Bool). b && not silent) (sym w.if-is_set.false ∙ c.is_set-7.ensures)
     ] in
     record {
       sub = are.sub;
@@ -27,14 +27,17 @@ returns c = λ name are.
       to = c.in_ok-from.ensures.to;
       node = c.in_ok-from.ensures.node;
       epoch = are.epoch;
-      svg = c.is_set.ensures;
+      binary = c.is_set.ensures;
+      svg = c.is_set-2.ensures;
       second = c.in_ok-second.ensures;
-      disjoint = c.is_set-2.ensures;
-      order_alone = c.is_set-3.ensures;
-      whole = c.is_set-4.ensures;
+      disjoint = c.is_set-3.ensures;
+      order_alone = c.is_set-4.ensures;
+      nodes = are.nodes;
+      steps = c.is_set-5.ensures;
+      whole = c.is_set-6.ensures;
       explain = explain;
-      json = c.is_set-6.ensures;
+      json = c.is_set-8.ensures;
       output = c.in_ok-output.ensures;
-      quiet = c.is_set-7.ensures;
+      quiet = c.is_set-9.ensures;
       files = c.in_ok-files.ensures;
     }
