@@ -251,9 +251,9 @@ fn order_again(words: &Words) -> Option<LabelOrder>
 
 /// The figures, those without each link, or those beside a second plan, as the words ask for.
 fn read_figures(words: &Words, graph: &Graph) -> Result<Show, AnswerStop>
-    ensures show { IfOk result (λ show. AreShown words.now graph.now show) }
+    ensures show { IfOk result (λ show. AreShown words.now.each words.now graph.now show) }
     ensures among { IfOk result (λ show. 0 < length graph.now → AreAmong (length graph.now) show) }
-    ensures stop { IfErr result (λ s. StopsAs s (RefusesFigures words.now graph.now)) }
+    ensures stop { IfErr result (λ s. StopsAs s (RefusesFigures words.now.each words.now graph.now)) }
 {
     if words.each {
         return Ok(Show::Each(order_again(words)));

@@ -203,7 +203,7 @@ module _ (name : Text) (rows : List Row) (a b : Words) (is : Means name rows a) 
   same_each = ap₂ (λ (each some : Bool). not (each && some)) (is.each ∙ sym also.each) same_beside
 
   pub taken_too : AreTaken b → AreTaken a
-  taken_too taken = (same_files ∙ taken.0, same_numbering ∙ taken.1, same_drawing ∙ taken.2, same_detour ∙ taken.3, same_nodes ∙ taken.4.0, same_each ∙ taken.4.1)
+  taken_too taken = (same_files ∙ taken.0, same_numbering ∙ taken.1, same_drawing ∙ taken.2, same_detour ∙ taken.3, same_nodes ∙ taken.4, same_each ∙ taken.5)
 
   pub fits_too : FitsItsKind b → FitsItsKind a
   fits_too fits = λ order. ap takes_list kinds ∙ fits (sym same_order ∙ order)
