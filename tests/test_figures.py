@@ -97,6 +97,66 @@ def test_beside() -> None:
     count("rings of two plans that have none alone", None if both > 0 else "there is no such pair")
 
 
+def left_of(words_: List[str], text: str) -> str:
+    """What a line of `stats --each` says of a network, by what `stats` prints of it."""
+    output, faults, status = run(["stats", *words_, "--format", "edgelist", "-"], text.encode())
+    if status == 1 and faults == b"opening Disconnected\n":
+        return "disconnected"
+    told = dict(line.partition(" ")[::2] for line in output.decode().splitlines())
+    mean, worst = "-", "-"
+    if "worst" in told:
+        mean, worst = f"{told['walks']}/{told['distances']}", "/".join(told["worst"].split()[2:])
+    return " ".join([told["starts"], told["greatest-row"].split()[1], told["bits"].split()[0], mean, worst, told["dependencies"].split()[0]])
+
+
+def without_links(words_: List[str], nodes: List[str], edges: List[Tuple[str, str, int]]) -> str:
+    """The text of `stats --each links` by that of `stats` for each network. A node has a line of its own before all links, so that it keeps
+    its place whatever link is missing."""
+    heads = "".join(f"{node} {node} 1\n" for node in nodes)
+    lines = [f"{u} {v} {weight}\n" for u, v, weight in edges]
+    place = {node: at for at, node in enumerate(nodes)}
+    kind = words_[words_.index("--kind") + 1]
+    texts = [f"each links {kind} {len(nodes)} {len(edges)} {left_of(words_, heads + ''.join(lines))}\n"]
+    for u, v, _ in sorted(edges, key=lambda edge: min(place[edge[0]], place[edge[1]])):  # links stand by their first node, and then as they were read
+        at = next(i for i, edge in enumerate(edges) if edge[:2] == (u, v))
+        low, high = sorted((u, v), key=place.__getitem__)
+        texts.append(f"{low} {high} {left_of(words_, heads + ''.join(lines[:at] + lines[at + 1:]))}\n")
+    return "".join(texts)
+
+
+def test_each() -> None:
+    """Each line of `stats --each links` has what `stats` prints of the network without that link, whatever the kind, the numbering and the
+    threads; with an order in a file all plans keep its labels. What is refused."""
+    luck = random.Random(1)
+    ring = put("each/ring.adjlist", "a b c\nb c\nc d\n")
+    for turn in range(12):
+        count_ = luck.randint(2, 14)
+        nodes = [f"n{u}" for u in range(count_)]
+        chosen = {(luck.randrange(v), v) for v in range(1, count_)}
+        chosen |= {tuple(sorted(luck.sample(range(count_), 2))) for _ in range(luck.randint(0, 2 * count_))}  # type: ignore[arg-type]
+        edges = [(f"n{u}", f"n{v}", luck.randint(1, 9)) for u, v in luck.sample(sorted(chosen), len(chosen))]
+        text = "".join(f"{node} {node} 1\n" for node in nodes) + "".join(f"{u} {v} {weight}\n" for u, v, weight in edges)
+        net = put(f"each/{turn}.edgelist", text)
+        order = put(f"each/{turn}.order", "".join(f"{node}\n" for node in luck.sample(nodes, count_)))
+        root = ["--root", luck.choice(nodes)]
+        for words_ in (["--kind", "tree", *root], ["--kind", "shortest", *root, "--numbering", luck.choice(["depth-first", "tour"])],
+                       ["--kind", "compact", *root, "--numbering", luck.choice(["depth-first", "tour"])], ["--kind", "landmark", "--stretch", "200", *root],
+                       ["--kind", luck.choice(["shortest", "compact"]), "--numbering", order]):
+            told = without_links(words_, nodes, edges)
+            expect(f"network {turn} without each link, {words_[1]}", run(["stats", "--each", "links", *words_, net]), told.encode(), b"", 0)
+            most = luck.choice(["1", "3"])
+            expect(f"network {turn} by {most} threads", run(["stats", "--each", "links", *words_, "--threads", most, net]), told.encode(), b"", 0)
+            shown = run(["stats", "--each", "links", "--json", *words_, net])
+            expect(f"network {turn} without each link as JSON", shown, json_of("each", told)[1].encode(), b"", 0)
+            count(f"the JSON of network {turn} is read", None if json.loads(shown[0]) == json_of("each", told)[0] else "it is another")
+    for words_ in (["stats", "--each", "link"], ["stats", "--each", ""], ["stats", "--each"], ["plan", "--each", "links"]):
+        expect(f"not understood: {words_}", run([*words_, ring]), b"", SOME, 2)
+    lone = run(["stats", "--each", "links", "-"], b"a\n")
+    expect("a network with no link", lone, b"each links shortest 1 0 0 0 0 - - acyclic\n", b"", 0)
+    cut = run(["stats", "--each", "links", "-"], b"a b\nc d\n")
+    expect("a network that is in parts", cut, b"", b"opening Disconnected\n", 1)
+
+
 COLUMNS = "kind numbering intervals greatest-row bits mean-stretch worst-stretch dependencies"
 
 

@@ -103,6 +103,19 @@ def compared(row):
             "worst-stretch": parts(row[6], "/", ("walk", "distance")), "dependencies": row[7]}
 
 
+def measured(row):
+    return {**fields("#intervals #greatest-row #bits", row), "mean-stretch": parts(row[3], "/", ("walks", "distances")),
+            "worst-stretch": parts(row[4], "/", ("walk", "distance")), "dependencies": row[5]}
+
+
+def failure(row):
+    return {"link": row[:2], **({"disconnected": True} if row[2] == "disconnected" else measured(row[2:]))}
+
+
+def each(lines):
+    return {**fields("each kind #nodes #links", lines[0][1:]), **measured(lines[0][5:])}, "failures", [failure(row) for row in lines[1:]]
+
+
 def shown(value):
     return json.dumps(value, separators=(",", ":"))
 
@@ -123,7 +136,7 @@ def json_of(sub, text):
     if sub == "compare":
         head, rows, bits = {"compare": fields("#nodes #links", lines[0][1:])}, [compared(row) for row in lines[2:-1]], {"tables": {"bits": int(lines[-1][4])}}
         return {**head, "plans": rows, **bits}, f'{shown(head)[:-1]},"plans":[\n{listed(rows)}\n],\n{shown(bits)[1:-1]}\n}}\n'
-    head, name, rows = {"plan": plan, "order": order, "walk": walk, "prefixes": prefixes, "ranges": ranges}.get(sub, trace)(lines)
+    head, name, rows = {"plan": plan, "each": each, "order": order, "walk": walk, "prefixes": prefixes, "ranges": ranges}.get(sub, trace)(lines)
     front = shown(head)[:-1] + ("," if head else "") + shown(name)
     return {**head, name: rows}, f"{front}:[" + ("\n" if rows else "") + listed(rows) + "\n]}\n"
 

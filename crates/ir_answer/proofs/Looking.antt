@@ -1,5 +1,5 @@
 -- The answers that show a plan, by what was read before it is built.
-use Rattle.std.proofs.Common.{◌≡◌, ◌≢◌, ◌∙◌, ◌<◌, ℕ, Bool, length, List, Option, Some, None, MatchOption, string_bytes, refl, sym, ap, subst, true, true≢false, arith}
+use Rattle.std.proofs.Common.{◌≡◌, ◌≢◌, ◌∙◌, ◌<◌, ℕ, Bool, length, List, Option, Some, None, MatchOption, string_bytes, refl, sym, ap, subst, true, false, true≢false, arith}
 use Rattle.std.specs.Option.{option_map}
 use Rattle.ir_model.specs.declared.Detour.{Detour}
 use Rattle.ir_model.specs.declared.Kind.{Kind}
@@ -30,7 +30,7 @@ use Rattle.ir_cli.specs.declared.words.Sub.{Sub}
 use Rattle.ir_cli.specs.declared.words.Sub.TheVariants.{Plan as Planning, Walk, Stats, Compare, Draw, Prefixes, Ranges as Ranging, Xdp, Sim, Live, Check}
 use Rattle.ir_answer.specs.declared.look.Show.{Show}
 use Rattle.ir_answer.specs.declared.look.Show.TheVariants.{Between, Beside, Drawing, Circle}
-use Rattle.ir_answer.specs.Looks.{from_name, to_name, drawn_name, Says, AnswerShows, AnswersEnds, AnswersBothEnds, AnswersDrawn, AnswersFigures, AnswersShow, AnswersAsked, AnswersLook, AnswersLabels, AreTexts, LookAnswers, IsNode, IsLabelling, AreShown, IsNetwork, IsOneDrawn, IsShow, lines_shown, RefusesLabels, RefusesEnds, RefusesFigures, RefusesShow}
+use Rattle.ir_answer.specs.Looks.{from_name, to_name, drawn_name, Says, AnswerShows, AnswersEnds, AnswersBothEnds, AnswersDrawn, AnswersBeside, AnswersFigures, AnswersShow, AnswersAsked, AnswersLook, AnswersLabels, AreTexts, LookAnswers, IsNode, IsLabelling, AreBeside, AreShown, IsNetwork, IsOneDrawn, IsShow, lines_shown, RefusesLabels, RefusesEnds, RefusesFigures, RefusesShow}
 use Rattle.ir_plan.specs.Building.{Labelling, FromRoot, ByList, IsPlanBy, RefusesPlan}
 use Rattle.ir_show.specs.Alone.{IsWalkOfPlan}
 use Rattle.ir_answer.specs.Plans.{AnswersText, IsTextOfPlan}
@@ -98,18 +98,23 @@ of_drawn None is_svg from to g answers show answer is holds = of_network from to
 of_drawn (Some node) is_svg from to g answers show answer (u, is, same) holds =
     of_root g (Some node) (λ v. answers (Circle v is_svg)) answer u is (subst (λ (s : Show). answers s answer) same holds)
 
-of_figures : (detour : Detour) (second : Option Second) (g : Adjacency) (answers : Show → Answer → Type 0) (show : Show) (answer : Answer)
-    → AreShown detour second g show → answers show answer → AnswersFigures detour second g answers answer
-of_figures detour None g answers show answer same holds = subst (λ (s : Show). answers s answer) same holds
-of_figures detour (Some second) g answers show answer (root, is, same) holds =
+of_beside : (detour : Detour) (second : Option Second) (g : Adjacency) (answers : Show → Answer → Type 0) (show : Show) (answer : Answer)
+    → AreBeside detour second g show → answers show answer → AnswersBeside detour second g answers answer
+of_beside detour None g answers show answer same holds = subst (λ (s : Show). answers s answer) same holds
+of_beside detour (Some second) g answers show answer (root, is, same) holds =
     of_root g (option_map string_bytes second.root) (λ u. answers (Beside (kind_of second.kind detour) u)) answer root is (subst (λ (s : Show). answers s answer) same holds)
+
+of_figures : (each : Bool) (words : Words) (g : Adjacency) (answers : Show → Answer → Type 0) (show : Show) (answer : Answer)
+    → AreShown each words g show → answers show answer → AnswersFigures each words g answers answer
+of_figures true words g answers show answer same holds = subst (λ (s : Show). answers s answer) same holds
+of_figures false words g answers show answer is holds = of_beside (detour_of words.detour (length g)) words.second g answers show answer is holds
 
 of_show : (look : Sub) (words : Words) (g : Adjacency) (answers : Show → Answer → Type 0) (show : Show) (answer : Answer)
     → IsShow look words g show → answers show answer → AnswersAsked look words g answers answer
 of_show Planning words g answers show answer same holds = subst (λ (s : Show). answers s answer) same holds
 of_show Walk words g answers show answer (a, b, first, second, same) holds =
     of_ends g (from_name words) (to_name words) (λ x y. answers (Between x y)) answer a b first second (subst (λ (s : Show). answers s answer) same holds)
-of_show Stats words g answers show answer is holds = of_figures (detour_of words.detour (length g)) words.second g answers show answer is holds
+of_show Stats words g answers show answer is holds = of_figures words.each words g answers show answer is holds
 of_show Draw words g answers show answer is holds = of_drawn (drawn_name words) words.svg (from_name words) (to_name words) g answers show answer is holds
 of_show Prefixes words g answers show answer same holds = subst (λ (s : Show). answers s answer) same holds
 of_show Ranging words g answers show answer same holds = subst (λ (s : Show). answers s answer) same holds
@@ -131,16 +136,21 @@ refuses_drawn : (node : Option Name) (is_svg : Bool) (from to : Option Name) (g 
 refuses_drawn None is_svg from to g answers line refuses = refuses_network from to g answers line refuses
 refuses_drawn (Some node) is_svg from to g answers line refuses = option_more (root_in (names g) (Some node)) (λ same. same) (λ u none. absurd none) refuses
 
-refuses_figures : (detour : Detour) (second : Option Second) (g : Adjacency) (answers : Show → Answer → Type 0) (line : List ℕ)
-    → RefusesFigures detour second g line → AnswersFigures detour second g answers (Refused line)
-refuses_figures detour None g answers line refuses = absurd refuses
-refuses_figures detour (Some second) g answers line refuses = option_more (root_in (names g) (option_map string_bytes second.root)) (λ same. same) (λ u none. absurd none) refuses
+refuses_beside : (detour : Detour) (second : Option Second) (g : Adjacency) (answers : Show → Answer → Type 0) (line : List ℕ)
+    → AnswersBeside detour second g (λ show answer. ⊥) (Refused line) → AnswersBeside detour second g answers (Refused line)
+refuses_beside detour None g answers line refuses = absurd refuses
+refuses_beside detour (Some second) g answers line refuses = option_more (root_in (names g) (option_map string_bytes second.root)) (λ same. same) (λ u none. absurd none) refuses
+
+refuses_figures : (each : Bool) (words : Words) (g : Adjacency) (answers : Show → Answer → Type 0) (line : List ℕ)
+    → RefusesFigures each words g line → AnswersFigures each words g answers (Refused line)
+refuses_figures true words g answers line refuses = absurd refuses
+refuses_figures false words g answers line refuses = refuses_beside (detour_of words.detour (length g)) words.second g answers line refuses
 
 refuses_show : (look : Sub) (words : Words) (g : Adjacency) (answers : Show → Answer → Type 0) (line : List ℕ)
     → RefusesShow look words g line → AnswersAsked look words g answers (Refused line)
 refuses_show Planning words g answers line refuses = absurd refuses
 refuses_show Walk words g answers line refuses = refuses_ends g (from_name words) (to_name words) (λ x y. answers (Between x y)) line refuses
-refuses_show Stats words g answers line refuses = refuses_figures (detour_of words.detour (length g)) words.second g answers line refuses
+refuses_show Stats words g answers line refuses = refuses_figures words.each words g answers line refuses
 refuses_show Draw words g answers line refuses = refuses_drawn (drawn_name words) words.svg (from_name words) (to_name words) g answers line refuses
 refuses_show Prefixes words g answers line refuses = absurd refuses
 refuses_show Ranging words g answers line refuses = absurd refuses

@@ -22,7 +22,7 @@ trace_shape words = if words.restamps == 0 then shapes.Trace else shapes.Restamp
 abbrev pub shape_of : Sub → Words → Option Shape
 shape_of Plan words = Some (if words.order_alone then shapes.Order else shapes.Plan)
 shape_of Walk words = Some shapes.Walk
-shape_of Stats words = Some shapes.Stats
+shape_of Stats words = Some (if words.each then shapes.Failures else shapes.Stats)
 shape_of Compare words = Some shapes.Compare
 shape_of Draw words = None
 shape_of Prefixes words = Some shapes.Prefixes

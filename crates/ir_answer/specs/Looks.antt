@@ -1,7 +1,7 @@
 -- What a topology comes to as a text that shows its plan: its rows, the order of its labels, a walk, its figures, a
 -- drawing, the circle of its labels, its forwarding tables, its ranges of labels, or the lines of a node's row, which may also
 -- be bytes.
-use Rattle.std.specs.Prelude.{◌≡◌, ◌<◌, ℕ, length, Bool, IfSome, List, [], ◌∷◌, Option, None, Some, if◌then◌else◌, string_bytes}
+use Rattle.std.specs.Prelude.{◌≡◌, ◌<◌, ℕ, length, Bool, true, false, IfSome, List, [], ◌∷◌, Option, None, Some, if◌then◌else◌, string_bytes}
 use Rattle.std.specs.Option.{option_map}
 use Rattle.std.specs.Borrow.{Bor}
 use Rattle.ir_model.specs.Graph.{Name, Adjacency, names}
@@ -9,6 +9,7 @@ use Rattle.ir_model.specs.Text.{lines}
 use Rattle.ir_show.specs.PlanText.{plan_text}
 use Rattle.ir_show.specs.WalkText.{IsWalkOf}
 use Rattle.ir_figures.specs.FiguresText.{AreFiguresOf, AreFiguresBeside}
+use Rattle.ir_figures.specs.Failures.{AreLinkFailures}
 use Rattle.ir_show.specs.Drawing.{IsDrawingOf}
 use Rattle.ir_exports.specs.Circle.{circle_svg}
 use Rattle.ir_exports.specs.Ring.{circle_dot}
@@ -23,12 +24,14 @@ use Rattle.ir_cli.specs.declared.words.Sub.TheVariants.{Plan as Planning, Walk, 
 use Rattle.ir_model.specs.declared.Detour.{Detour}
 use Rattle.ir_model.specs.declared.Kind.{Kind}
 use Rattle.ir_cli.specs.Kinds.{detour_of, kind_of}
+use Rattle.ir_plan.specs.declared.tour.LabelOrder.{LabelOrder}
 use Rattle.ir_plan.specs.declared.tour.LabelOrder.TheVariants.{DepthFirst}
 use Rattle.ir_answer.specs.declared.look.Show.{Show}
-use Rattle.ir_answer.specs.declared.look.Show.TheVariants.{Rows, Between, Figures, Beside, Drawing, Circle, Tables, Ranges, Lines, Bytes, Order}
+use Rattle.ir_answer.specs.declared.look.Show.TheVariants.{Rows, Between, Figures, Beside, Each, Drawing, Circle, Tables, Ranges, Lines, Bytes, Order}
 use Rattle.ir_script.specs.Order.{IsOrder}
 use Rattle.ir_cli.specs.Answer.{Answer, Ran, Found, Refused, NoThread}
 use Rattle.ir_cli.specs.Openings.{root_name, root_in, kind_asked, label_order, AnswersTopology, AnswersRoot, AnswersOrder}
+use Rattle.ir_cli.specs.Words.{has_order}
 use Rattle.ir_model.specs.Plan.{Plan}
 use Rattle.ir_plan.specs.Building.{Labelling, FromRoot, ByList, IsPlanBy}
 use Rattle.ir_answer.specs.Plans.{AnswersText}
@@ -61,12 +64,22 @@ abbrev pub AnswersDrawn : Option Name → Bool → Option Name → Option Name �
 AnswersDrawn None is_svg from to g answers = AnswersBothEnds g from to (λ ends. answers (Drawing ends))
 AnswersDrawn (Some node) is_svg from to g answers = AnswersRoot g (Some node) (λ u. answers (Circle u is_svg))
 
--- The answer to a graph where figures are asked for: the refusal of a second plan's root that is no node, or else an answer
--- to what is to be shown. Where the root has no name it is the first node. Landmark plans go round so far.
-abbrev pub AnswersFigures : Detour → Option Second → Adjacency → (Show → Answer → Type 0) → Answer → Type 0
-AnswersFigures detour None g answers = answers Figures
-AnswersFigures detour (Some second) g answers =
+-- The answer to a graph where figures beside those of a second plan may be asked for: the refusal of a second plan's root that
+-- is no node, or else an answer to what is to be shown. Where the root has no name it is the first node. Landmark plans go
+-- round so far.
+abbrev pub AnswersBeside : Detour → Option Second → Adjacency → (Show → Answer → Type 0) → Answer → Type 0
+AnswersBeside detour None g answers = answers Figures
+AnswersBeside detour (Some second) g answers =
     AnswersRoot g (option_map string_bytes second.root) (λ root. answers (Beside (kind_of second.kind detour) root))
+
+-- the order in which plans without a link are labelled, if they don't keep the labels of a list
+abbrev pub order_again : Words → Option LabelOrder
+order_again words = if has_order words then None else Some (label_order words.numbering)
+
+-- The answer to a graph where figures are asked for, those without each link or those beside a second plan.
+abbrev pub AnswersFigures : Bool → Words → Adjacency → (Show → Answer → Type 0) → Answer → Type 0
+AnswersFigures true words g answers = answers (Each (order_again words))
+AnswersFigures false words g answers = AnswersBeside (detour_of words.detour (length g)) words.second g answers
 
 -- the text is that of a plan's figures beside a second plan of this kind, numbered depth first from this root
 abbrev pub IsFiguresBeside : Kind → ℕ → List Name → Plan → List ℕ → Type 0
@@ -82,6 +95,7 @@ Says Rows nodes plan text = text ≡ plan_text nodes plan
 Says (Between a b) nodes plan text = IsWalkOf nodes plan a b text
 Says Figures nodes plan text = AreFiguresOf nodes plan text
 Says (Beside kind root) nodes plan text = IsFiguresBeside kind root nodes plan text
+Says (Each labels) nodes plan text = AreLinkFailures nodes plan labels text
 Says (Drawing ends) nodes plan text = IsDrawingOf nodes plan ends text
 Says (Circle u is_svg) nodes plan text = text ≡ circle_text is_svg nodes plan u
 Says (Tables is_disjoint) nodes plan text = IsPrefixesOf is_disjoint nodes plan text
@@ -103,6 +117,7 @@ AreAmong n Rows = Unit {0}
 AreAmong n (Between a b) = (a < n) × (b < n)
 AreAmong n Figures = Unit {0}
 AreAmong n (Beside kind root) = root < n
+AreAmong n (Each labels) = Unit {0}
 AreAmong n (Drawing ends) = IfSome ends (λ e. (e.0 < n) × (e.1 < n))
 AreAmong n (Circle u is_svg) = u < n
 AreAmong n (Tables is_disjoint) = Unit {0}
@@ -142,7 +157,7 @@ ShowsPlan sub = Unit {0}
 abbrev pub AnswersAsked : Sub → Words → Adjacency → (Show → Answer → Type 0) → Answer → Type 0
 AnswersAsked Planning words g answers = answers (rows_or_order words)
 AnswersAsked Walk words g answers = AnswersEnds g (from_name words) (to_name words) (λ a b. answers (Between a b))
-AnswersAsked Stats words g answers = AnswersFigures (detour_of words.detour (length g)) words.second g answers
+AnswersAsked Stats words g answers = AnswersFigures words.each words g answers
 AnswersAsked Draw words g answers = AnswersDrawn (drawn_name words) words.svg (from_name words) (to_name words) g answers
 AnswersAsked Prefixes words g answers = answers (Tables words.disjoint)
 AnswersAsked Ranging words g answers = answers Ranges
@@ -191,11 +206,16 @@ abbrev pub IsLabelling : Words → Option (List ℕ) → Adjacency → Labelling
 IsLabelling words None g labels = (root : ℕ) × IsNode g (root_name words) root × (labels ≡ FromRoot (label_order words.numbering) root)
 IsLabelling words (Some order) g labels = (places : List ℕ) × IsOrder (names g) (lines order) places × (labels ≡ ByList places)
 
--- the figures that the words ask for
-abbrev pub AreShown : Detour → Option Second → Adjacency → Show → Type 0
-AreShown detour None g show = show ≡ Figures
-AreShown detour (Some second) g show =
+-- the figures, beside those of a second plan if there is one
+abbrev pub AreBeside : Detour → Option Second → Adjacency → Show → Type 0
+AreBeside detour None g show = show ≡ Figures
+AreBeside detour (Some second) g show =
     (root : ℕ) × IsNode g (option_map string_bytes second.root) root × (show ≡ Beside (kind_of second.kind detour) root)
+
+-- the figures that the words ask for
+abbrev pub AreShown : Bool → Words → Adjacency → Show → Type 0
+AreShown true words g show = show ≡ Each (order_again words)
+AreShown false words g show = AreBeside (detour_of words.detour (length g)) words.second g show
 
 -- the drawing of the network, with the ends where both are named
 abbrev pub IsNetwork : Option Name → Option Name → Adjacency → Show → Type 0
@@ -216,7 +236,7 @@ IsDrawn words g show = IsOneDrawn (drawn_name words) words.svg (from_name words)
 abbrev pub IsShow : Sub → Words → Adjacency → Show → Type 0
 IsShow Planning words g show = show ≡ rows_or_order words
 IsShow Walk words g show = (a b : ℕ) × IsNode g (from_name words) a × IsNode g (to_name words) b × (show ≡ Between a b)
-IsShow Stats words g show = AreShown (detour_of words.detour (length g)) words.second g show
+IsShow Stats words g show = AreShown words.each words g show
 IsShow Draw words g show = IsDrawn words g show
 IsShow Prefixes words g show = show ≡ Tables words.disjoint
 IsShow Ranging words g show = show ≡ Ranges
@@ -233,8 +253,8 @@ RefusesLabels words order g line = AnswersLabels words order g (λ labels answer
 abbrev pub RefusesEnds : Adjacency → Option Name → Option Name → List ℕ → Type 0
 RefusesEnds g from to line = AnswersEnds g from to (λ a b answer. ⊥) (Refused line)
 
-abbrev pub RefusesFigures : Detour → Option Second → Adjacency → List ℕ → Type 0
-RefusesFigures detour second g line = AnswersFigures detour second g (λ show answer. ⊥) (Refused line)
+abbrev pub RefusesFigures : Bool → Words → Adjacency → List ℕ → Type 0
+RefusesFigures each words g line = AnswersFigures each words g (λ show answer. ⊥) (Refused line)
 
 abbrev pub RefusesDrawn : Words → Adjacency → List ℕ → Type 0
 RefusesDrawn words g line = AnswersDrawn (drawn_name words) words.svg (from_name words) (to_name words) g (λ show answer. ⊥) (Refused line)

@@ -20,6 +20,7 @@ fn shape_of(sub: Sub, words: &Words) -> Option<Shape>
         Sub::Plan if words.order_alone => Some(Shape::Order),
         Sub::Plan => Some(Shape::Plan),
         Sub::Walk => Some(Shape::Walk),
+        Sub::Stats if words.each => Some(Shape::Failures),
         Sub::Stats => Some(Shape::Stats),
         Sub::Compare => Some(Shape::Compare),
         Sub::Draw | Sub::Xdp => None,

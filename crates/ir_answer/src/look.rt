@@ -2,7 +2,7 @@
 ghost use Rattle.std.specs.Prelude.{◌≡◌, ◌≢◌, ◌<◌, ℕ, true, IfOk, IfErr, IfSome, IsSome, length, string_bytes};
 ghost use Rattle.ir_model.specs.{Graph.names, Topology.node_count};
 ghost use Rattle.ir_answer.specs.Asked.{look_sources};
-ghost use Rattle.ir_answer.specs.Looks.{from_name, to_name, circle_text, AnswersShow, AreAmong, AreTexts, Says, AnswerShows, order_in, IsNode, IsLabelling, AreShown, IsDrawn, IsShow, IsText, lines_shown, RefusesLabels, RefusesEnds, RefusesFigures, RefusesDrawn, RefusesShow, ShowsPlan, LookAnswers, IsFiguresBeside};
+ghost use Rattle.ir_answer.specs.Looks.{from_name, to_name, circle_text, AnswersShow, AreAmong, AreTexts, Says, AnswerShows, order_in, IsNode, IsLabelling, AreShown, IsDrawn, IsShow, IsText, lines_shown, order_again, RefusesLabels, RefusesEnds, RefusesFigures, RefusesDrawn, RefusesShow, ShowsPlan, LookAnswers, IsFiguresBeside};
 ghost use Rattle.ir_answer.specs.Stops.{StopsAs, Gives};
 ghost use Rattle.ir_cli.specs.Answer.{Refused};
 ghost use Rattle.ir_model.specs.OfGraph.{topology_of_graph};
@@ -17,7 +17,7 @@ use ir_core::OpenError;
 use ir_exports::{
     circle_dot, circle_svg, lines_bytes, lines_text, order_text, prefixes_text_by, ranges_text,
 };
-use ir_figures::{figures_text, figures_text_beside};
+use ir_figures::{figures_text, figures_text_beside, link_failures_text};
 use ir_graph::Graph;
 use ir_model::Kind;
 use ir_plan::{Crew, LabelOrder, Labels, Plan, PlanError, is_of_shortest_ways};
@@ -37,6 +37,9 @@ pub enum Show {
     /// The figures, and the links that wait for each other where packets of a second plan are under way too, which is
     /// of this kind and numbered depth first from this node.
     Beside(Kind, u16),
+    /// The figures, and those without each link: of plans labelled in this order, or where there is none with the labels
+    /// of the plan of the whole network.
+    Each(Option<LabelOrder>),
     /// A drawing, with the walk between two nodes in bold if there are any.
     Drawing(Option<(u16, u16)>),
     /// The circle of labels with the intervals of a node: as SVG, or for Graphviz.
@@ -133,6 +136,7 @@ fn text_of(
         Show::Between(from, to) => walk_text(alloc, graph, plan, from, to),
         Show::Figures => figures_text(alloc, graph, plan),
         Show::Beside(kind, root) => beside_text(crew, alloc, graph, plan, (kind, root)),
+        Show::Each(order) => link_failures_text(crew, alloc, graph, plan, order),
         Show::Drawing(ends) => draw_text(alloc, graph, plan, ends),
         Show::Circle(node, is_svg) => circle_text(alloc, graph, plan, node, is_svg),
         Show::Tables(is_disjoint) => prefixes_text_by(crew, alloc, graph, plan, is_disjoint),
@@ -233,14 +237,27 @@ fn read_ends(words: &Words, graph: &Graph) -> Result<(u16, u16), AnswerStop>
     Ok((from, to))
 }
 
-/// The figures, beside those of a second plan if the words ask for one.
-fn read_figures(words: &Words, graph: &Graph) -> Result<Show, AnswerStop>
-    ensures show { IfOk result (λ show. AreShown (detour_of words.now.detour (length graph.now)) words.now.second
-        graph.now show) }
-    ensures among { IfOk result (λ show. 0 < length graph.now → AreAmong (length graph.now) show) }
-    ensures stop { IfErr result (λ s. StopsAs s (RefusesFigures (detour_of words.now.detour (length graph.now))
-        words.now.second graph.now)) }
+/// In what order the plans without a link are labelled: in that of the words, or where these have a list in none, which
+/// keeps the labels.
+fn order_again(words: &Words) -> Option<LabelOrder>
+    ensures { result ≡ order_again words.now }
 {
+    if words.has_order() {
+        None
+    } else {
+        Some(label_order(&words.numbering))
+    }
+}
+
+/// The figures, those without each link, or those beside a second plan, as the words ask for.
+fn read_figures(words: &Words, graph: &Graph) -> Result<Show, AnswerStop>
+    ensures show { IfOk result (λ show. AreShown words.now.each words.now graph.now show) }
+    ensures among { IfOk result (λ show. 0 < length graph.now → AreAmong (length graph.now) show) }
+    ensures stop { IfErr result (λ s. StopsAs s (RefusesFigures words.now.each words.now graph.now)) }
+{
+    if words.each {
+        return Ok(Show::Each(order_again(words)));
+    }
     let Some(second) = &words.second else {
         return Ok(Show::Figures);
     };

@@ -85,6 +85,7 @@ AreTheirWords choices = (texts choices.formats.now ≡ codes "adjlist" ∷ codes
     × (texts choices.kinds.now ≡ codes "tree" ∷ codes "shortest" ∷ codes "compact" ∷ codes "landmark" ∷ [])
     × (texts choices.numberings.now ≡ codes "depth-first" ∷ codes "tour" ∷ [])
     × (texts choices.parts.now ≡ codes "table" ∷ [])
+    × (texts choices.eaches.now ≡ codes "links" ∷ [])
 
 -- the flag of output as JSON
 abbrev pub json : Rule
@@ -117,10 +118,6 @@ ordered = flag (codes "order") ∷ option (codes "nodes") ∷ json ∷ []
 -- the ends of `walk`
 abbrev pub ends : List Rule
 ends = needed (option (codes "from")) ∷ needed (option (codes "to")) ∷ json ∷ []
-
--- the second plan of `stats`
-abbrev pub second : List Rule
-second = option (codes "with") ∷ json ∷ []
 
 -- what `draw` draws: the ends of a walk, or a node
 abbrev pub drawn : List Rule
@@ -176,6 +173,10 @@ module _ (choices : Choices) where
       ∷ needed (placed_number (codes "epoch") 1 MAX_EPOCH)
       ∷ []
 
+  -- the second plan of `stats`, and of what each fails
+  abbrev pub measured : List Rule
+  measured = option (codes "with") ∷ choice (codes "each") choices.eaches ∷ json ∷ []
+
   -- what the comparison of plans takes
   abbrev pub compared : List Rule
   compared =
@@ -213,7 +214,7 @@ module _ (choices : Choices) where
   abbrev pub rules_of : Sub → List Rule
   rules_of subs.Plan = routed ++ shown ++ ordered ++ telling
   rules_of subs.Walk = routed ++ shown ++ ends ++ telling
-  rules_of subs.Stats = routed ++ shown ++ second ++ telling
+  rules_of subs.Stats = routed ++ shown ++ measured ++ telling
   rules_of subs.Compare = compared ++ as_json ++ telling
   rules_of subs.Draw = routed ++ shown ++ drawn ++ telling
   rules_of subs.Prefixes = routed ++ shown ++ prefixed ++ telling

@@ -159,6 +159,7 @@ pub record Means (name : Text) (rows : List Row) (words : Words) : Type 0 where
   pub binary : words.binary ≡ is_set (codes "binary") rows
   pub svg : words.svg ≡ is_set (codes "svg") rows
   pub second : IsSecond (second_word rows) (first_of (codes "root") rows) words.second
+  pub each : words.each ≡ is_some (first_of (codes "each") rows)
   pub disjoint : words.disjoint ≡ is_set (codes "disjoint") rows
   pub order_alone : words.order_alone ≡ is_set (codes "order") rows
   pub nodes : AreNodes (nodes_word rows) words.nodes

@@ -24,6 +24,8 @@ static NUMBERINGS: [&str; 2] = ["depth-first", "tour"];
 
 static PARTS: [&str; 1] = ["table"];
 
+static EACHES: [&str; 1] = ["links"];
+
 /// The subcommands, as help lists them.
 static SUBCOMMANDS: [Sub; 11] = [
     Sub::Plan,
@@ -67,6 +69,7 @@ fn words_of<'a>(choices: Choices<'a>, choice: Choice) -> &'a [&'a str]
         Choice::Kind => choices.kinds,
         Choice::Numbering => choices.numberings,
         Choice::Part => choices.parts,
+        Choice::Each => choices.eaches,
     }
 }
 
@@ -199,6 +202,7 @@ fn choices_told<'a>() -> Choices<'a>
         kinds: KINDS.as_slice(),
         numberings: NUMBERINGS.as_slice(),
         parts: PARTS.as_slice(),
+        eaches: EACHES.as_slice(),
     }
 }
 

@@ -20,6 +20,8 @@ pub enum Choice {
     Numbering,
     /// What is printed for a kernel's packet path.
     Part,
+    /// Of what each fails.
+    Each,
 }
 
 /// What an argument takes.
@@ -70,6 +72,7 @@ pub struct Choices<'a> {
     pub kinds: &'a [&'a str],
     pub numberings: &'a [&'a str],
     pub parts: &'a [&'a str],
+    pub eaches: &'a [&'a str],
 }
 
 /// A row of a table: the name and the letter, what is taken and whether it must be, and what help says of it.
@@ -149,6 +152,9 @@ const TO: Taken = taken!("to", None, Accepts::Word("B"), Need::Must => "End the 
 const WITH: Taken = taken!("with", None, Accepts::Word("KIND[,ROOT]"), Need::Free
     => "Also report whether links can wait for one another in a ring if packets of this plan and of a second one travel (default ROOT: that of --root)");
 
+const EACH: Taken = taken!("each", None, Accepts::WordOf("WHAT", Choice::Each), Need::Free
+    => "Print the figures on one line, and one line with those of the plan without each link");
+
 const DRAWN_FROM: Taken = taken!("from", None, Accepts::Word("A"), Need::Free
     => "Draw the path from node A in bold (with --to)");
 
@@ -217,8 +223,8 @@ static WALK: [Taken; 11] = [
     FORMAT, KIND, LANDMARKS, STRETCH, ROOT, NUMBERING, THREADS, TOPOLOGY, FROM, TO, JSON,
 ];
 
-static STATS: [Taken; 10] = [
-    FORMAT, KIND, LANDMARKS, STRETCH, ROOT, NUMBERING, THREADS, TOPOLOGY, WITH, JSON,
+static STATS: [Taken; 11] = [
+    FORMAT, KIND, LANDMARKS, STRETCH, ROOT, NUMBERING, THREADS, TOPOLOGY, WITH, EACH, JSON,
 ];
 
 static COMPARE: [Taken; 5] = [FORMAT, ROOTS, THREADS, TOPOLOGY, JSON];

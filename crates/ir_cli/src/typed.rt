@@ -1,6 +1,6 @@
 //! What was typed for the options, flags and files of a subcommand, as the fields of its words.
 
-ghost use Rattle.std.specs.Prelude.{◌≡◌, ◌≢◌, ◌<◌, ◌++◌, ℕ, Option, Some, IfOk, MatchOption, OnOk, codes, map, option_map, option_to_list, string_bytes, unwrap_or};
+ghost use Rattle.std.specs.Prelude.{◌≡◌, ◌≢◌, ◌<◌, ◌++◌, ℕ, Option, Some, IfOk, MatchOption, OnOk, codes, map, option_map, option_to_list, is_some, string_bytes, unwrap_or};
 ghost use Rattle.clap.specs.Words.{first_of, found_of, rows_of};
 ghost use Rattle.ir_cli.specs.declared.choices.DetourChoice.{DetourChoice};
 ghost use Rattle.ir_cli.specs.declared.kinds.KindChoice.{KindChoice};
@@ -26,6 +26,13 @@ pub fn typed<'a>(found: &ArgMatches<'a>, name: &str) -> Option<&'a str>
     ensures { option_map (λ word. word.now) result ≡ first_of name.now (rows_of (found_of found.now)) }
 {
     found.get_str(name)
+}
+
+/// Whether there is a word of an option or a file.
+pub fn is_given(found: &ArgMatches<'_>, name: &str) -> bool
+    ensures { result ≡ is_some (first_of name.now (rows_of (found_of found.now))) }
+{
+    typed(found, name).is_some()
 }
 
 /// The same as a text of its own.

@@ -17,7 +17,7 @@ use crate::command::route_command;
 use crate::faults::{asked_fault, fault_of, fault_text};
 use crate::help::Called;
 use crate::kinds::KindChoice;
-use crate::typed::{Chosen, choose, files_of, is_set, numbering_of, second_of, word_of};
+use crate::typed::{Chosen, choose, files_of, is_given, is_set, numbering_of, second_of, word_of};
 use clap::ArgMatches;
 use clap::error::ErrorKind;
 use std::alloc::{AllocError, AllocFailed, Global};
@@ -109,6 +109,9 @@ pub struct Words {
     pub svg: bool,
     /// The plan beside the first, for `stats`; its root is by default that of the first.
     pub second: Option<Second>,
+    /// Whether the figures without each link are printed in place of those of the plan alone, never beside a second
+    /// plan, for `stats`.
+    pub each: bool,
     /// Whether no number is to match two lines of a node, for `prefixes`.
     pub disjoint: bool,
     /// Whether the order of the labels is to stand in place of the rows, for `plan`.
@@ -292,6 +295,7 @@ fn words_of(alloc: Global, all: Chosen, found: &ArgMatches<'_>) -> Result<Words,
         binary: is_set(found, "binary"),
         svg: is_set(found, "svg"),
         second,
+        each: is_given(found, "each"),
         disjoint: is_set(found, "disjoint"),
         order_alone: is_set(found, "order"),
         nodes: all.nodes,
@@ -374,6 +378,7 @@ fn all_words<'a>(
 /// - a detour where no landmark plan is made;
 /// - a second plan of no kind;
 /// - nodes that are no two numbers, the second at least the first, or beside an order of labels;
+/// - figures without each link, beside a second plan;
 /// - a drawn walk with one end, a node beside a walk, and SVG without a node.
 pub fn read_words_as(alloc: Global, called: Called, words: &[String]) -> Result<Words, WordsError>
     ensures kind { IfOk result (λ words. FitsItsKind words) }

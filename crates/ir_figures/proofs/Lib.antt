@@ -14,3 +14,4 @@ pub mod Marks
 pub mod ClosedRings
 pub mod Start
 pub mod Steps
+pub mod FailureLines

@@ -1,5 +1,5 @@
 -- A plan has one row of a comparison, and a network one row of full tables.
-use Rattle.std.proofs.Common.{◌≡◌, ℕ, zero, suc, ◌+◌, ◌-◌, ◌*◌, ◌<◌, ◌≤◌, ◌⊎◌, ◌^◌, ◌++◌, List, [], ◌∷◌, Option, Some, None, length, refl, sym, ap, subst, ◌∙◌, ⊎_elim, arith}
+use Rattle.std.proofs.Common.{◌≡◌, ℕ, zero, suc, ◌-◌, ◌*◌, ◌<◌, ◌≤◌, ◌^◌, ◌++◌, List, [], ◌∷◌, Option, Some, None, length, refl, sym, ap, subst, ◌∙◌, ⊎_elim, arith}
 use Rattle.std.specs.Prelude.{sum_by}
 use Rattle.std.specs.List.{range_with_len}
 use Rattle.std.proofs.Math.Nat.{pow-suc}
@@ -12,7 +12,7 @@ use Rattle.ir_show.specs.declared.worst.Pair.{Pair}
 use Rattle.ir_show.specs.StatsText.{sum_of_pairs, IsWorstOf}
 use Rattle.ir_show.specs.Words.{line_text}
 use Rattle.ir_show.proofs.Determined.{Agree, same_walks, same_distances, same_pair_sums, one_greatest, one_worst, worst_along}
-use Rattle.ir_figures.specs.RowBits.{AreFewestBits, row_bits, AreBitsBefore}
+use Rattle.ir_figures.specs.RowBits.{AreFewestBits, AreBitsBefore}
 use Rattle.ir_figures.specs.Waits.{Waits}
 use Rattle.ir_figures.specs.FiguresText.{IsRingOf}
 use Rattle.ir_figures.specs.Compared.{compared_kind, labels_word, ring_word, ratio_text, count_words, stretch_words, IsRowOf, AreTableBits}

@@ -2,7 +2,6 @@
 use Rattle.std.proofs.Common.{◌≡◌, ℕ, List, [], ◌∷◌, ◌++◌, Option, None, Some, Ok, Err, IfSome, option_map, flat_map, ap, sym, subst, ◌∙◌, refl, append_assoc}
 use Rattle.std.specs.Prelude.{OnOk}
 use Rattle.std.specs.declared.result.Result.{Result}
-use Rattle.std.specs.List.{join_with_byte}
 use Rattle.std.proofs.lemmas.Grind.{flat_map-append}
 use Rattle.std.proofs.lemmas.List.{append-nil}
 use Rattle.ir_model.specs.declared.Kind.{Kind}
@@ -19,7 +18,7 @@ use Rattle.ir_show.specs.Before.{IsWeighed}
 use Rattle.ir_show.specs.Figures.{AreFigures}
 use Rattle.ir_show.specs.StatsText.{sum_of_pairs}
 use Rattle.ir_show.specs.Words.{line_text}
-use Rattle.ir_figures.specs.Compared.{stretch_words, ratio_text, IsRowOf, IsRowBy, AreBothRows}
+use Rattle.ir_figures.specs.Compared.{stretch_words, IsRowOf, IsRowBy, AreBothRows}
 use Rattle.ir_figures.specs.Columns.{stretches_of}
 
 pieces : (old a b c d e f : List ℕ) → (((((old ++ a) ++ b) ++ c) ++ d) ++ e) ++ f ≡ old ++ ((a ++ (b ++ ((c ++ d) ++ e))) ++ f)

@@ -4,9 +4,11 @@ pub mod Compactness
 pub mod FiguresText
 pub mod Waits
 pub mod Compared
+pub mod Failures
 pub mod Arcs
 -- what bodies use
 pub mod Exits
 pub mod Columns
+pub mod Made
 pub mod Sought
 pub mod Search

@@ -52,7 +52,7 @@ fn push_kind(text: &mut String, kind: Kind) -> TextResult
 }
 
 /// The word of a ring of links that wait for each other, or of none.
-fn ring_word(ring: &Option<Vec<u16>>) -> &'static str
+pub(crate) fn ring_word(ring: &Option<Vec<u16>>) -> &'static str
     ensures { result.now ≡ ring_word (option_map (λ r. r.items) ring.now) }
 {
     match ring {
@@ -67,7 +67,7 @@ fn push_ratio(text: &mut String, over: u64, under: u64) -> TextResult
     write!(text, " {over}/{under}")
 }
 
-fn push_stretches(text: &mut String, figures: &Figures) -> TextResult
+pub(crate) fn push_stretches(text: &mut String, figures: &Figures) -> TextResult
     ensures { OnOk result (string_bytes text.new ≡ string_bytes text.old
         ++ flat_map spaced (stretches_of figures.now.walks figures.now.distances figures.now.worst)) }
 {
@@ -80,7 +80,7 @@ fn push_stretches(text: &mut String, figures: &Figures) -> TextResult
 }
 
 /// Writes how many starts the rows of a plan have, its greatest row, and the bits of its rows.
-fn push_counts(text: &mut String, plan: &Plan, greatest: u16, bits: u64) -> TextResult
+pub(crate) fn push_counts(text: &mut String, plan: &Plan, greatest: u16, bits: u64) -> TextResult
     requires { greatest < node_count plan.now.topology }
     ensures { OnOk result (string_bytes text.new ≡ string_bytes text.old
         ++ flat_map spaced (count_words plan.now greatest bits)) }

@@ -17,6 +17,14 @@ const WALK_ROW: &str = "{\"node\":$,\"label\":#,\"start\":#,\"end\":#,\"next\":$
 const COMPARED_ROW: &str =
     "{\"kind\":$,\"numbering\":$,\"intervals\":#,\"greatest-row\":#,\"bits\":#,\"mean-stretch\":{\"walks\":<,\"distances\":>},\"worst-stretch\":{\"walk\":<,\"distance\":>},\"dependencies\":$}";
 
+const FAILURES_HEAD: &str =
+    "{$:$,\"kind\":$,\"nodes\":#,\"links\":#,\"intervals\":#,\"greatest-row\":#,\"bits\":#,\"mean-stretch\":{\"walks\":<,\"distances\":>},\"worst-stretch\":{\"walk\":<,\"distance\":>},\"dependencies\":$,\"failures\":[";
+
+const FAILURES_ROW: &str =
+    "{\"link\":[$,$],\"intervals\":#,\"greatest-row\":#,\"bits\":#,\"mean-stretch\":{\"walks\":<,\"distances\":>},\"worst-stretch\":{\"walk\":<,\"distance\":>},\"dependencies\":$}";
+
+const FAILURES_CUT: &str = "{\"link\":[$,$],\"disconnected\":true~}";
+
 const PREFIXES_ROW: &str = "{\"node\":$,\"label\":#,\"entries\":[";
 
 const PREFIX: &str = "{\"value\":<,\"length\":>,\"next\":?}";
@@ -126,6 +134,7 @@ fn head_form(shape: Shape, line: &[u8]) -> Form
         Shape::Walk => plain("{$:$,\"from\":$,\"to\":$,\"address\":#,\"weight\":#,\"hops\":["),
         Shape::Stats => figure_form(line),
         Shape::Compare => plain("{$:{\"nodes\":#,\"links\":#},\"plans\":["),
+        Shape::Failures => plain(FAILURES_HEAD),
         Shape::Prefixes => plain("{$:$,\"nodes\":#,\"bits\":#,\"entries\":#,\"rows\":["),
         Shape::Ranges => plain("{$:$,\"nodes\":#,\"count\":#,\"rows\":["),
         Shape::Trace | Shape::Restamps => plain("{$:#,\"packets\":["),
@@ -147,6 +156,8 @@ fn row_form(shape: Shape, place: usize, line: &[u8]) -> Form
         Shape::Compare if place == 1 => plain(""),
         Shape::Compare if is(word_at(line, 0), "tables") => plain("$:{~~~\"bits\":#}"),
         Shape::Compare => plain(COMPARED_ROW),
+        Shape::Failures if is(word_at(line, 2), "disconnected") => plain(FAILURES_CUT),
+        Shape::Failures => plain(FAILURES_ROW),
         Shape::Prefixes => listed(PREFIXES_ROW, Items::Pairs(PREFIX)),
         Shape::Ranges => listed(RANGES_ROW, Items::Pairs("{\"from\":<,\"to\":>,\"next\":$}")),
         Shape::Trace if has_link(line, 5) => listed(TRACE_ROW_WITH_LINK, Items::Names),

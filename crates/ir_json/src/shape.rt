@@ -17,6 +17,8 @@ pub enum Shape {
     Stats,
     /// The figures of plans of each kind.
     Compare,
+    /// The figures of a plan, and of those without each link.
+    Failures,
     /// The prefixes of a plan's nodes.
     Prefixes,
     /// The ranges of a plan's nodes.

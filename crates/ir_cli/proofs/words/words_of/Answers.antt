@@ -30,6 +30,7 @@ returns c = λ name are.
       binary = c.is_set.ensures;
       svg = c.is_set-2.ensures;
       second = c.in_ok-second.ensures;
+      each = c.is_given.ensures;
       disjoint = c.is_set-3.ensures;
       order_alone = c.is_set-4.ensures;
       nodes = are.nodes;

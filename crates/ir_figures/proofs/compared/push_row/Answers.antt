@@ -1,4 +1,4 @@
-use Rattle.std.proofs.Common.{◌≡◌, ◌++◌, ◌∙◌, ℕ, List, [], ◌∷◌, option_map, flat_map, ap, refl, string_bytes}
+use Rattle.std.proofs.Common.{◌++◌, ◌∙◌, ℕ, List, [], ◌∷◌, option_map, flat_map, ap, refl, string_bytes}
 use Rattle.ir_model.specs.Topology.{node_count}
 use Rattle.ir_trace.specs.Rows.{spaced}
 use Rattle.ir_model.specs.declared.Kind.{Kind}

@@ -1,0 +1,154 @@
+-- The lines of links that fail.
+use Rattle.std.proofs.Common.{◌≡◌, ◌≢◌, ◌∙◌, ℕ, zero, suc, ◌+◌, List, [], ◌∷◌, ◌++◌, Bool, Option, None, Some, Ok, Err, length, map, flat_map, codes, refl, sym, ap, subst, arith, append_assoc}
+use Rattle.std.specs.Prelude.{if◌then◌else◌, is_ok, slice_index, IfOk, IsSomeAnd, OnOk}
+use Rattle.std.specs.List.{AllZip, range_with_len}
+use Rattle.std.specs.declared.result.Result.{Result}
+use Rattle.std.specs.declared.alloc.AllocError.{AllocError}
+use Rattle.std.proofs.lemmas.Grind.{flat_map-append}
+use Rattle.std.proofs.lemmas.List.{append-nil, get_or_default}
+use Rattle.ir_model.specs.declared.Kind.{Kind}
+use Rattle.ir_model.specs.declared.Kind.TheVariants.{Tree, Shortest, Compact, Landmark}
+use Rattle.ir_model.specs.declared.Link.{Link}
+use Rattle.ir_model.specs.Topology.{Topology, restrict}
+use Rattle.ir_model.specs.Walk.{IsDisconnected}
+use Rattle.ir_model.specs.Plan.{Plan, IsPlan}
+use Rattle.ir_model.proofs.Restrict.{node_count-restrict}
+use Rattle.ir_plan.specs.Building.{Labelling, ByList, MayLabel, IsPlanBy, RefusesPlan}
+use Rattle.ir_plan.specs.declared.crew.NodeText.{NodeText}
+use Rattle.ir_plan.specs.declared.error.PlanError.{PlanError}
+use Rattle.ir_plan.specs.declared.error.PlanError.TheVariants.{Disconnected}
+use Rattle.ir_plan.specs.declared.tour.LabelOrder.{LabelOrder}
+use Rattle.ir_trace.specs.Rows.{spaced}
+use Rattle.ir_trace.proofs.WrittenRows.{join_spaced}
+use Rattle.ir_show.specs.Words.{line_text}
+use Rattle.ir_figures.specs.Failures.{all_but, labelling_kept, labelling_left, without_link}
+use Rattle.ir_figures.specs.Made.{bytes_of}
+
+-- ---- words
+
+three_pieces : (old a b c : List ℕ) → ((old ++ a) ++ b) ++ c ≡ old ++ ((a ++ b) ++ c)
+three_pieces old a b c = simp append_assoc
+
+-- the words of figures, written one behind the other
+pub figures_told : (old a b c : List ℕ) (counts stretches : List (List ℕ)) (ring : List ℕ)
+    → a ≡ old ++ flat_map spaced counts → b ≡ a ++ flat_map spaced stretches → c ≡ b ++ spaced ring
+    → c ≡ old ++ flat_map spaced (counts ++ stretches ++ ring ∷ [])
+figures_told old a b c counts stretches ring one two three =
+    rw (three, two, one)
+    (three_pieces old (flat_map spaced counts) (flat_map spaced stretches) (spaced ring)
+    ∙ ap (λ t. old ++ ((flat_map spaced counts ++ flat_map spaced stretches) ++ t)) (sym (append-nil (spaced ring)))
+    ∙ ap (λ t. old ++ (t ++ flat_map spaced (ring ∷ []))) (sym (flat_map-append spaced counts stretches))
+    ∙ ap (λ t. old ++ t) (sym (flat_map-append spaced (counts ++ stretches) (ring ∷ []))))
+
+four_pieces : (old a b c d : List ℕ) → (((old ++ a) ++ b) ++ c) ++ d ≡ old ++ ((a ++ (b ++ c)) ++ d)
+four_pieces old a b c d = simp append_assoc
+
+-- a line of two words and further ones
+pub line_told : (old a b c d first second : List ℕ) (words : List (List ℕ))
+    → a ≡ old ++ first → b ≡ a ++ spaced second → c ≡ b ++ flat_map spaced words → d ≡ c ++ 10 ∷ []
+    → d ≡ old ++ line_text (first ∷ second ∷ words)
+line_told old a b c d first second words one two three four =
+    rw (four, three, two, one)
+    (four_pieces old first (spaced second) (flat_map spaced words) (10 ∷ [])
+    ∙ ap (λ t. old ++ (t ++ 10 ∷ [])) (sym (join_spaced first (second ∷ words))))
+
+six_pieces : (old a b c d e f : List ℕ) → (((((old ++ a) ++ b) ++ c) ++ d) ++ e) ++ f ≡ old ++ ((a ++ (b ++ (c ++ (d ++ e)))) ++ f)
+six_pieces old a b c d e f = simp append_assoc
+
+-- the first line
+pub head_told : (old a b c d e f kind nodes links : List ℕ) (words : List (List ℕ))
+    → a ≡ old ++ codes "each links" → b ≡ a ++ spaced kind → c ≡ b ++ spaced nodes → d ≡ c ++ spaced links → e ≡ d ++ flat_map spaced words → f ≡ e ++ 10 ∷ []
+    → f ≡ old ++ line_text (codes "each" ∷ codes "links" ∷ kind ∷ nodes ∷ links ∷ words)
+head_told old a b c d e f kind nodes links words one two three four five six =
+    rw (six, five, four, three, two, one)
+    (six_pieces old (codes "each links") (spaced kind) (spaced nodes) (spaced links) (flat_map spaced words) (10 ∷ [])
+    ∙ ap (λ t. old ++ (t ++ 10 ∷ [])) (sym (join_spaced (codes "each") (codes "links" ∷ kind ∷ nodes ∷ links ∷ words))))
+
+-- ---- texts of a crew
+
+-- where nothing was refused, the texts are those that were made
+pub texts_made : (P : ℕ → NodeText → Type 0) (u k : ℕ) (made : List NodeText) → AllZip (λ (v : ℕ) (one : Result NodeText AllocError). IfOk one (P v)) (range_with_len u k) (map Ok made)
+    → AllZip P (range_with_len u k) made
+texts_made P u zero [] zipped = zipped
+texts_made P u zero (one ∷ made) zipped = zipped
+texts_made P u (suc k) [] zipped = zipped
+texts_made P u (suc k) (one ∷ made) zipped = (zipped.0, texts_made P (u + 1) k made zipped.1)
+
+-- what holds of texts holds of their bytes
+pub bytes_zipped : (P : ℕ → List ℕ → Type 0) (us : List ℕ) (made : List NodeText) → AllZip (λ l one. P l (bytes_of one)) us made → AllZip P us (map bytes_of made)
+bytes_zipped P [] [] zipped = zipped
+bytes_zipped P [] (one ∷ made) zipped = zipped
+bytes_zipped P (u ∷ us) [] zipped = zipped
+bytes_zipped P (u ∷ us) (one ∷ made) zipped = (zipped.0, bytes_zipped P us made zipped.1)
+
+pub bytes_joined : (made : List NodeText) → flat_map bytes_of made ≡ flat_map (λ (line : List ℕ). line) (map bytes_of made)
+bytes_joined [] = refl
+bytes_joined (one ∷ made) = ap (λ (t : List ℕ). bytes_of one ++ t) (bytes_joined made)
+
+-- ---- what is left of a network
+
+pub over_left : (net seen left : Topology) (l count : ℕ) (up marks : List Bool)
+    → left ≡ restrict marks seen → marks ≡ up → up ≡ all_but count l → count ≡ length seen.links → seen ≡ net → left ≡ without_link net l
+over_left net seen left l count up marks is slice made links same =
+    is ∙ ap (λ (m : List Bool). restrict m seen) (slice ∙ made ∙ ap (λ (n : ℕ). all_but n l) links) ∙ ap (λ (n : Topology). without_link n l) same
+
+-- the labels of a plan are a list for the network without some links
+listed : (kind : Kind) (plan : Plan) (up : List Bool) → IsPlan plan → kind ≢ Tree → MayLabel (restrict up plan.topology) kind (ByList plan.order)
+listed kind plan up is other =
+    let are = is.labels in
+    let same = node_count-restrict up plan.topology in (
+      other,
+      record {
+        every = are.every_label ∙ sym same;
+        nodes = λ k d lt.
+            let at = get_or_default plan.order k d 0 lt in
+            let below = are.node k (omega (arith, lt, are.every_label)) in
+            omega (arith, at, below, same);
+        once = λ i j d lt within e.
+            let at = get_or_default plan.order i d 0 (omega (arith, lt, within)) in
+            let there = get_or_default plan.order j d 0 within in
+            let labels_same : slice_index plan.labels (slice_index plan.order i) ≡ slice_index plan.labels (slice_index plan.order j) = ap (slice_index plan.labels) (sym at ∙ e ∙ there) in
+            let first = are.back i (omega (arith, lt, within, are.every_label)) in
+            let last = are.back j (omega (arith, within, are.every_label)) in
+            omega (arith, sym first ∙ labels_same ∙ last, lt);
+      },
+    )
+
+may_keep : (kind : Kind) (plan : Plan) (up : List Bool) → IsPlan plan → MayLabel (restrict up plan.topology) kind (labelling_kept kind plan)
+may_keep Tree plan up is = tt
+may_keep Shortest plan up is = listed Shortest plan up is (λ e. cc e)
+may_keep Compact plan up is = listed Compact plan up is (λ e. cc e)
+may_keep (Landmark t) plan up is = listed (Landmark t) plan up is (λ e. cc e)
+
+-- a plan without some links may be labelled as it is asked
+may_label : (plan : Plan) (order : Option LabelOrder) (up : List Bool) → IsPlan plan → MayLabel (restrict up plan.topology) plan.kind (labelling_left plan order)
+may_label plan (Some order) up is = tt
+may_label plan None up is = may_keep plan.kind plan up is
+
+pub may_label_left : (plan : Plan) (order : Option LabelOrder) (l : ℕ) (left : Topology) (kind : Kind) (labels : Labelling) → IsPlan plan
+    → left ≡ without_link plan.topology l → kind ≡ plan.kind → labels ≡ labelling_left plan order → MayLabel left kind labels
+may_label_left plan order l left kind labels is over same named = rw (over, same, named) (may_label plan order (all_but (length plan.topology.links) l) is)
+
+pub plan_left : (plan : Plan) (order : Option LabelOrder) (l : ℕ) (left : Topology) (kind : Kind) (labels : Labelling) (found : Plan)
+    → left ≡ without_link plan.topology l → kind ≡ plan.kind → labels ≡ labelling_left plan order → IsPlanBy left kind labels found
+    → IsPlanBy (without_link plan.topology l) plan.kind (labelling_left plan order) found
+plan_left plan order l left kind labels found over same named is =
+    subst (λ (n : Topology). IsPlanBy n plan.kind (labelling_left plan order) found) over
+    (subst (λ (k : Kind). IsPlanBy left k (labelling_left plan order) found) same (subst (λ (x : Labelling). IsPlanBy left kind x found) named is))
+
+pub cut_left : (net left : Topology) (l : ℕ) (labels : Labelling) (error : PlanError) → left ≡ without_link net l → error ≡ Disconnected → RefusesPlan left labels error → IsDisconnected (without_link net l)
+cut_left net left l labels error over is refuses =
+    let cut : RefusesPlan left labels Disconnected = subst (λ (e : PlanError). RefusesPlan left labels e) is refuses in
+    subst (λ (n : Topology). IsDisconnected n) over cut.2
+
+-- ---- what is written last
+
+-- what follows of a text where the last piece was written
+pub on_written : {T E P : Type 0} (r : Result T E) (t0 t1 piece : List ℕ) → t1 ≡ (if is_ok r then t0 ++ piece else t0) → (t1 ≡ t0 ++ piece → P) → OnOk r P
+on_written (Ok v) t0 t1 piece e so = so e
+on_written (Err x) t0 t1 piece e so = tt
+
+-- the link that is there
+pub link_there : (o : Option Link) (P : Link → Type 0) → IsSomeAnd o P → (link : Link) × (o ≡ Some link) × P link
+link_there (Some link) P holds = (link, refl, holds)
+link_there None P holds = absurd holds

@@ -1,0 +1,87 @@
+-- The text of the figures that a network has where each of its links fails.
+use Rattle.std.specs.Prelude.{◌≡◌, ℕ, ◌⊎◌, ◌++◌, Bool, true, false, List, [], ◌∷◌, length, flat_map, decimal, codes, replicate, slice_get, slice_set, Option, None, Some}
+use Rattle.std.specs.List.{AllZip, range_with_len}
+use Rattle.ir_model.specs.declared.Kind.{Kind}
+use Rattle.ir_model.specs.declared.Kind.TheVariants.{Tree, Shortest, Compact, Landmark}
+use Rattle.ir_model.specs.declared.Link.{Link}
+use Rattle.ir_model.specs.Graph.{Name}
+use Rattle.ir_model.specs.Topology.{Topology, node_count, restrict}
+use Rattle.ir_model.specs.Walk.{IsDisconnected}
+use Rattle.ir_model.specs.Plan.{Plan}
+use Rattle.ir_plan.specs.declared.tour.LabelOrder.{LabelOrder}
+use Rattle.ir_plan.specs.declared.tour.LabelOrder.TheVariants.{DepthFirst}
+use Rattle.ir_plan.specs.Building.{Labelling, FromRoot, ByList, IsPlanBy}
+use Rattle.ir_trace.specs.Written.{name_at}
+use Rattle.ir_show.specs.declared.worst.Pair.{Pair}
+use Rattle.ir_show.specs.PlanText.{kind_text}
+use Rattle.ir_show.specs.StatsText.{AreWalkWeights, ArePlanDistances, IsGreatestRow, IsWorstOf}
+use Rattle.ir_show.specs.Words.{line_text}
+use Rattle.ir_figures.specs.RowBits.{AreBitsBefore}
+use Rattle.ir_figures.specs.Waits.{Waits}
+use Rattle.ir_figures.specs.FiguresText.{IsRingOf}
+use Rattle.ir_figures.specs.Compared.{count_words, stretch_words, ring_word}
+
+-- The words of a plan's figures, those of `stats`: as in a row of `compare`.
+pub record AreFigureWords (plan : Plan) (words : List (List ℕ)) : Type 0 where
+  pub greatest : ℕ
+  pub greatest_row : IsGreatestRow plan greatest
+  pub walk : ℕ → ℕ → ℕ
+  pub walks : AreWalkWeights plan walk
+  pub distance : ℕ → ℕ → ℕ
+  pub distances : ArePlanDistances plan distance
+  pub worst : Option Pair
+  pub worst_pair : IsWorstOf (node_count plan.topology) walk distance worst
+  pub rows : ℕ
+  pub tables : ℕ
+  pub bits : AreBitsBefore plan (node_count plan.topology) rows tables
+  pub ring : Option (List ℕ)
+  pub ring_is : IsRingOf (Waits plan) ring
+  pub whole : words ≡ count_words plan greatest rows ++ stretch_words (node_count plan.topology) walk distance worst ++ ring_word ring ∷ []
+
+-- all of so many links are up, but one
+abbrev pub all_but : ℕ → ℕ → List Bool
+all_but count l = slice_set (replicate count true) l false
+
+-- the network without a link
+abbrev pub without_link : Topology → ℕ → Topology
+without_link net l = restrict (all_but (length net.links) l) net
+
+-- the labels of a plan as a list; those of a tree are depth first from its root, whatever the network
+abbrev pub labelling_kept : Kind → Plan → Labelling
+labelling_kept Tree plan = FromRoot DepthFirst plan.root
+labelling_kept Shortest plan = ByList plan.order
+labelling_kept Compact plan = ByList plan.order
+labelling_kept (Landmark t) plan = ByList plan.order
+
+-- By what the plans are labelled where a link fails: in this order from the root of the plan of the whole network, or with
+-- the labels of that plan.
+abbrev pub labelling_left : Plan → Option LabelOrder → Labelling
+labelling_left plan (Some order) = FromRoot order plan.root
+labelling_left plan None = labelling_kept plan.kind plan
+
+-- The words say what a network comes to: the figures of the plan over it of this kind and these labels, or that some node
+-- has no walk to some node.
+abbrev pub AreWordsOf : Topology → Kind → Labelling → List (List ℕ) → Type 0
+AreWordsOf net kind labels words =
+    ((plan : Plan) × IsPlanBy net kind labels plan × AreFigureWords plan words) ⊎ (IsDisconnected net × (words ≡ codes "disconnected" ∷ []))
+
+-- `A B ..`: the ends of the link l, and what the network without it comes to.
+pub record IsLinkLine (nodes : List Name) (plan : Plan) (labels : Option LabelOrder) (l : ℕ) (line : List ℕ) : Type 0 where
+  pub link : Link
+  pub at : slice_get plan.topology.links l ≡ Some link
+  pub words : List (List ℕ)
+  pub left : AreWordsOf (without_link plan.topology l) plan.kind (labelling_left plan labels) words
+  pub whole : line ≡ line_text (name_at nodes link.low ∷ name_at nodes link.high ∷ words)
+
+-- `each links KIND N M ..`: with the figures of the plan of the whole network
+abbrev pub links_head : Plan → List (List ℕ) → List (List ℕ)
+links_head plan words =
+    codes "each" ∷ codes "links" ∷ kind_text plan.kind ∷ decimal (node_count plan.topology) ∷ decimal (length plan.topology.links) ∷ words
+
+-- The text has the figures of a plan, and behind them a line for each link, by number.
+pub record AreLinkFailures (nodes : List Name) (plan : Plan) (labels : Option LabelOrder) (text : List ℕ) : Type 0 where
+  pub words : List (List ℕ)
+  pub figures : AreFigureWords plan words
+  pub lines : List (List ℕ)
+  pub each : AllZip (IsLinkLine nodes plan labels) (range_with_len 0 (length plan.topology.links)) lines
+  pub whole : text ≡ line_text (links_head plan words) ++ flat_map (λ line. line) lines

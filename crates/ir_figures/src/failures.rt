@@ -1,0 +1,222 @@
+//! The text of the figures that a network has where each of its links fails.
+ghost use Rattle.std.specs.Prelude.{◌≡◌, ◌<◌, ◌++◌, ℕ, List, IfNone, IfOk, IfSome, OnOk, flat_map, length, string_bytes};
+ghost use Rattle.std.specs.List.{AllZip, range_with_len};
+ghost use Rattle.ir_model.specs.{Graph.names, Topology.node_count, Walk.IsDisconnected};
+ghost use Rattle.ir_plan.specs.Building.{IsPlanBy, labelling_of};
+ghost use Rattle.ir_trace.specs.Rows.{spaced};
+ghost use Rattle.ir_show.specs.Words.{line_text};
+ghost use Rattle.ir_figures.specs.Failures.{all_but, without_link, labelling_kept, labelling_left, links_head, AreFigureWords, AreWordsOf, IsLinkLine, AreLinkFailures};
+ghost use Rattle.ir_figures.specs.Made.{bytes_of};
+
+use crate::bits::bits_of;
+use crate::compared::{push_counts, push_stretches, ring_word};
+use crate::waits::waiting_ring;
+use ir_graph::Graph;
+use ir_model::Kind;
+use ir_plan::{Alone, Crew, LabelOrder, Labels, NodeText, Plan, PlanError};
+use ir_show::plan_text::kind_text;
+use ir_show::{TextResult, figures_of, greatest_row};
+use ir_trace::text::{name_of, push_name, push_next_number, push_word};
+use std::alloc::{AllocError, Global};
+
+/// The fewest failures that a thread is started for.
+const LEAST_FAILURES: usize = 1;
+
+/// Writes the words of a plan's figures.
+fn push_figures(text: &mut String, alloc: Global, plan: &Plan) -> TextResult
+    ensures { OnOk result ((words : List (List ℕ)) × AreFigureWords plan.now words
+        × (string_bytes text.new ≡ string_bytes text.old ++ flat_map spaced words)) }
+{
+    plan.invariant();
+    let figures = figures_of(alloc, plan)?;
+    let ring = waiting_ring(alloc, plan)?;
+    let bits = bits_of(plan);
+    push_counts(text, plan, greatest_row(plan), bits.rows)?;
+    push_stretches(text, &figures)?;
+    push_word(text, ring_word(&ring))
+}
+
+/// The marks of so many links, all up but one.
+fn all_but(alloc: Global, count: usize, l: usize) -> Result<Vec<bool>, AllocError>
+    requires { l < count }
+    ensures { IfOk result (λ up. up.items ≡ all_but count l) }
+{
+    let mut up = vec![in alloc; true; count]?;
+    up[l] = false;
+    Ok(up)
+}
+
+/// The nodes of a plan by label.
+fn nodes_by_label(alloc: Global, plan: &Plan) -> Result<Vec<u16>, AllocError>
+    ensures { IfOk result (λ nodes. nodes.items ≡ plan.now.order) }
+{
+    plan.invariant();
+    let mut nodes = Vec::with_capacity(alloc, plan.nodes())?;
+    for label in 0..plan.nodes() {
+        nodes.push(plan.node_of(label as u16))?;
+    }
+    Ok(nodes)
+}
+
+/// The labels of a plan as a list; those of a tree are depth first from its root.
+fn labels_kept(alloc: Global, plan: &Plan) -> Result<Labels, AllocError>
+    ensures { IfOk result (λ labels. labelling_of labels ≡ labelling_kept plan.now.kind plan.now) }
+{
+    match plan.kind() {
+        Kind::Tree => Ok(Labels::FromRoot(LabelOrder::DepthFirst, plan.root())),
+        Kind::Shortest | Kind::Compact | Kind::Landmark(_) => {
+            let nodes = nodes_by_label(alloc, plan)?;
+            Ok(Labels::Listed(nodes))
+        }
+    }
+}
+
+/// By what the plans are labelled where a link fails.
+fn labels_left(alloc: Global, plan: &Plan, order: Option<LabelOrder>) -> Result<Labels, AllocError>
+    ensures { IfOk result (λ labels. labelling_of labels ≡ labelling_left plan.now order) }
+{
+    match order {
+        Some(order) => Ok(Labels::FromRoot(order, plan.root())),
+        None => labels_kept(alloc, plan),
+    }
+}
+
+/// The plan without a link; None where some node has no walk to some node.
+fn plan_without(
+    alloc: Global,
+    plan: &Plan,
+    order: Option<LabelOrder>,
+    l: usize,
+) -> Result<Option<Plan>, AllocError>
+    requires link { l < length plan.now.topology.links }
+    ensures plan { IfOk result (λ found. IfSome found (IsPlanBy (without_link plan.now.topology l)
+        plan.now.kind (labelling_left plan.now order))) }
+    ensures cut { IfOk result (λ found. IfNone found (IsDisconnected (without_link plan.now.topology l))) }
+{
+    plan.invariant();
+    let topology = plan.topology();
+    let up = all_but(alloc, topology.links(), l)?;
+    let left = topology.only(alloc, up.as_slice())?;
+    let labels = labels_left(alloc, plan, order)?;
+    match Plan::build_by(&Alone, alloc, left, plan.kind(), labels) {
+        Ok(found) => Ok(Some(found)),
+        Err((error, _left)) => match error {
+            PlanError::Disconnected => Ok(None),
+            PlanError::NoMemory => Err(AllocError),
+            PlanError::Empty | PlanError::NoNode => unreachable!(),
+        },
+    }
+}
+
+/// Writes what the network without a link comes to.
+fn push_left(
+    text: &mut String,
+    alloc: Global,
+    plan: &Plan,
+    order: Option<LabelOrder>,
+    l: usize,
+) -> TextResult
+    requires link { l < length plan.now.topology.links }
+    ensures { OnOk result ((words : List (List ℕ))
+        × AreWordsOf (without_link plan.now.topology l) plan.now.kind (labelling_left plan.now order) words
+        × (string_bytes text.new ≡ string_bytes text.old ++ flat_map spaced words)) }
+{
+    let found = plan_without(alloc, plan, order, l)?;
+    match found {
+        Some(left) => push_figures(text, alloc, &left),
+        None => push_word(text, "disconnected"),
+    }
+}
+
+/// The line of a link that fails.
+fn link_line(
+    alloc: Global,
+    graph: &Graph,
+    plan: &Plan,
+    order: Option<LabelOrder>,
+    l: usize,
+) -> Result<NodeText, AllocError>
+    requires nodes { node_count plan.now.topology ≡ length graph.now }
+    requires link { l < length plan.now.topology.links }
+    ensures { IfOk result (λ made. IsLinkLine (names graph.now) plan.now order l (bytes_of made)) }
+{
+    plan.invariant();
+    let (low, high) = plan.topology().ends(l as u16);
+    let mut text = String::new(alloc);
+    text.push_str(name_of(graph, low))?;
+    push_name(&mut text, graph, high)?;
+    push_left(&mut text, alloc, plan, order, l)?;
+    text.push_str("\n")?;
+    Ok(NodeText { text, lines: 1 })
+}
+
+/// The line of each link, by number, made by a crew.
+fn lines_by(
+    crew: &impl Crew,
+    alloc: Global,
+    graph: &Graph,
+    plan: &Plan,
+    order: Option<LabelOrder>,
+) -> Result<Vec<NodeText>, AllocError>
+    requires { node_count plan.now.topology ≡ length graph.now }
+    ensures { IfOk result (λ made. AllZip (λ l one. IsLinkLine (names graph.now) plan.now order l (bytes_of one))
+        (range_with_len 0 (length plan.now.topology.links)) made.items) }
+{
+    crew.node_texts(
+        alloc,
+        plan.topology().links(),
+        LEAST_FAILURES,
+        &|l: usize| -> Result<NodeText, AllocError>
+            requires { (l < length plan.now.topology.links) × (node_count plan.now.topology ≡ length graph.now) }
+            ensures { IfOk result (λ made. IsLinkLine (names graph.entry.now) plan.entry.now order l
+                (bytes_of made)) }
+        { link_line(alloc, graph, plan, order, l) },
+    )
+}
+
+/// Writes texts one after the other.
+fn push_texts(text: &mut String, made: &[NodeText]) -> TextResult
+    ensures { OnOk result (string_bytes text.new ≡ string_bytes text.old ++ flat_map bytes_of made.now) }
+{
+    for one in made {
+        text.push_str(one.text.as_str())?;
+    }
+    Ok(())
+}
+
+/// Writes the first line.
+fn push_head(text: &mut String, alloc: Global, plan: &Plan) -> TextResult
+    ensures { OnOk result ((words : List (List ℕ)) × AreFigureWords plan.now words
+        × (string_bytes text.new ≡ string_bytes text.old ++ line_text (links_head plan.now words))) }
+{
+    text.push_str("each links")?;
+    push_word(text, kind_text(plan.kind()))?;
+    push_next_number(text, plan.nodes())?;
+    push_next_number(text, plan.topology().links())?;
+    push_figures(text, alloc, plan)?;
+    text.push_str("\n")
+}
+
+/// The text of the figures of a plan, and behind it a line for each link of its network, with the
+/// figures of the plan without that link: labelled in an order from the plan's root, or, without an
+/// order, with the plan's labels, but a tree always depth first. Where some node then has no walk to some node, the line says so.
+/// The lines are made by a crew, each on one thread, which holds one plan.
+///
+/// Condition: the plan is over the graph's network. It is refused for memory alone. For each link it takes as long as `Plan::build_by`, `figures_of`
+/// of `ir_show` and `waiting_ring`.
+pub fn link_failures_text(
+    crew: &impl Crew,
+    alloc: Global,
+    graph: &Graph,
+    plan: &Plan,
+    order: Option<LabelOrder>,
+) -> Result<String, AllocError>
+    requires { node_count plan.now.topology ≡ length graph.now }
+    ensures { IfOk result (λ text. AreLinkFailures (names graph.now) plan.now order (string_bytes text)) }
+{
+    let lines = lines_by(crew, alloc, graph, plan, order)?;
+    let mut text = String::new(alloc);
+    push_head(&mut text, alloc, plan)?;
+    push_texts(&mut text, lines.as_slice())?;
+    Ok(text)
+}
