@@ -1,6 +1,7 @@
-use Rattle.std.proofs.Common.{◌≡◌, ◌≢◌, ℕ, zero, suc, ◌+◌, ◌-◌, ◌<◌, ◌≤◌, List, [], ◌∷◌, ◌++◌, append_assoc, length, take, get_or, slice_get, slice_index_or, Option, Some, None, refl, sym, ap, ◌∙◌, subst, arith, add-one, true, false, Bool, nat_lt, inl, inr}
+use Rattle.std.proofs.Common.{◌≡◌, ◌≢◌, ℕ, zero, suc, ◌+◌, ◌-◌, ◌<◌, ◌≤◌, List, [], ◌∷◌, ◌++◌, append_assoc, length, take, get_or, slice_get, slice_index_or, Option, Some, None, refl, sym, ap, ◌∙◌, subst, arith, add-one, true, false, Bool, nat_lt, ◌⊎◌, inl, inr}
 use Rattle.std.specs.Prelude.{Result, Ok, Err, slice_index, nat_le, is_some, not, ◌||◌, ◌==◌, if◌then◌else◌}
 use Rattle.std.proofs.lemmas.Grind.{common_steps}
+use Rattle.std.proofs.lemmas.Bool.{cases_lt}
 use Rattle.std.proofs.lemmas.List.{append-nil, take_more}
 use Rattle.std.proofs.lemmas.Option.{get_or_from_slice_get, slice_get_within}
 use Rattle.ir_model.specs.declared.Hop.{Hop}
@@ -20,16 +21,15 @@ use Rattle.ir_core.specs.Setting.{Setting, nodes_of, channel_of}
 use Rattle.ir_core.specs.Entry.{Entry, DidInject, DidLearn, DidTake, DidRead, DidAct, DidChange, DidInstall, reply_of}
 use Rattle.ir_core.specs.History as history
 use Rattle.ir_core.specs.Meaning.{Sight, ComesTo, sight_after, with_entry, reads, takes, takes_from, takes_first, acts, acts_on, ruling_on, record_at}
-use Rattle.ir_core.specs.World.{World, IsWorld, IsAnswer, sight_in, after}
+use Rattle.ir_core.specs.World.{World, IsWorld, IsAnswer, Place, Waits, InHand, Ended, sight_in, after}
 use Rattle.ir_core.specs.Shows.{Shows}
-use Rattle.ir_core.specs.Drain.{after_read, after_act, after_take, after_way, after_ports, after_visit, after_visits, after_round, after_rounds}
-use Rattle.ir_core.specs.Quiet.{Moves, IsHandEmpty, IsUpToDate}
+use Rattle.ir_core.specs.Drain.{acts_in, after_read, after_act, after_take, after_way, after_ports, after_visit, after_visits, after_round, after_rounds}
+use Rattle.ir_core.specs.Quiet.{Moves, TakesFromBefore, IsHandEmpty, IsUpToDate, acts_ahead, hops_made, floor_of}
 use Rattle.ir_core.proofs.Shown.{same_sight}
 use Rattle.ir_core.proofs.Quiets.{act_done_by, take_done_by, TakeDone, read_moves}
-use Rattle.ir_core.proofs.Rounds.{DrainSo}
 use Rattle.ir_steps.specs.Words.{event_line}
 use Rattle.ir_steps.specs.Drained.{entry_line, lines_of, AreLinesBetween}
-use Rattle.ir_steps.specs.Parts.{HasHistory, IsApplied, Plays, Adds, added_line}
+use Rattle.ir_steps.specs.Parts.{HasHistory, IsApplied, Plays, Adds, AddsDrain, added_line}
 use Rattle.ir_steps.proofs.Answered.{answer_of}
 
 -- ---- one part after another
@@ -87,31 +87,37 @@ module _ (nodes : List Name) (net : Topology) (line : ℕ) where
 
   -- ---- the entries of an Act, a take and a read
 
-  entry_is : (x y : Entry) → Ok {Entry} {Refused} x ≡ Ok y → x ≡ y
+  abbrev accepted : Entry → Result Entry Refused
+  accepted x = Ok x
+
+  entry_is : (x y : Entry) → accepted x ≡ accepted y → x ≡ y
   entry_is x y e = cc
 
-  IsLineOf : Event → List Entry → Entry → Type 0
+  abbrev read_to : Bool → Bool → ℕ → ℕ → Result Entry Refused
+  read_to b t u k = if b then Err NoNode else if t then Err BadView else Ok (DidRead u k)
+
+  abbrev IsLineOf : Event → List Entry → Entry → Type 0
   IsLineOf e log entry = entry_line nodes net line log entry ≡ event_line nodes net line (λ p. history.packet p (entry ∷ log)) e (Ok (reply_of entry))
 
-  act_line : (b : Bool) (o : Setting) (x : Sight) (u : ℕ) (hand : Option Held) (entry : Entry) → (if b then Err NoNode else acts_on o x u hand) ≡ Ok entry → (log : List Entry) → IsLineOf (event.Act u) log entry
+  act_line : (b : Bool) (o : Setting) (x : Sight) (u : ℕ) (hand : Option Held) (entry : Entry) → (if b then Err NoNode else acts_on o x u hand) ≡ accepted entry → (log : List Entry) → IsLineOf (event.Act u) log entry
   act_line true o x u hand entry e log = cc
   act_line false o x u None entry e log = cc
   act_line false o x u (Some held) entry e log = subst (λ (y : Entry). IsLineOf (event.Act u) log y) (entry_is _ entry e) refl
 
-  first_line : (u : ℕ) (way : Way) (first : Option ℕ) (entry : Entry) → takes_first u way first ≡ Ok entry → (log : List Entry) → IsLineOf (event.Take u way) log entry
+  first_line : (u : ℕ) (way : Way) (first : Option ℕ) (entry : Entry) → takes_first u way first ≡ accepted entry → (log : List Entry) → IsLineOf (event.Take u way) log entry
   first_line u way None entry e log = cc
   first_line u way (Some id) entry e log = subst (λ (y : Entry). IsLineOf (event.Take u way) log y) (entry_is _ entry e) refl
 
-  full_line : (full : Bool) (u : ℕ) (way : Way) (first : Option ℕ) (entry : Entry) → (if full then Err HandFull else takes_first u way first) ≡ Ok entry → (log : List Entry) → IsLineOf (event.Take u way) log entry
+  full_line : (full : Bool) (u : ℕ) (way : Way) (first : Option ℕ) (entry : Entry) → (if full then Err HandFull else takes_first u way first) ≡ accepted entry → (log : List Entry) → IsLineOf (event.Take u way) log entry
   full_line true u way first entry e log = cc
   full_line false u way first entry e log = first_line u way first entry e log
 
-  take_line : (b : Bool) (x : Sight) (u : ℕ) (way : Way) (channel : Option ℕ) (entry : Entry) → (if b then Err NoNode else takes_from x u way channel) ≡ Ok entry → (log : List Entry) → IsLineOf (event.Take u way) log entry
+  take_line : (b : Bool) (x : Sight) (u : ℕ) (way : Way) (channel : Option ℕ) (entry : Entry) → (if b then Err NoNode else takes_from x u way channel) ≡ accepted entry → (log : List Entry) → IsLineOf (event.Take u way) log entry
   take_line true x u way channel entry e log = cc
   take_line false x u way None entry e log = cc
   take_line false x u way (Some c) entry e log = full_line (is_some (x.hand u)) u way (slice_get (x.waiting c) 0) entry e log
 
-  read_line : (b t : Bool) (u k : ℕ) (entry : Entry) → (if b then Err NoNode else if t then Err BadView else Ok (DidRead u k)) ≡ Ok entry → (log : List Entry) → (history.view u log == k) ≡ false → IsLineOf (event.Read u k) log entry
+  read_line : (b t : Bool) (u k : ℕ) (entry : Entry) → read_to b t u k ≡ accepted entry → (log : List Entry) → (history.view u log == k) ≡ false → IsLineOf (event.Read u k) log entry
   read_line true t u k entry e log new = cc
   read_line false true u k entry e log new = cc
   read_line false false u k entry e log new =
@@ -120,12 +126,18 @@ module _ (nodes : List Name) (net : Topology) (line : ℕ) where
 
   -- the version that was read is no line
   read_nothing : (b t : Bool) (u k : ℕ) (log : List Entry) → (history.view u log == k) ≡ true →
-      lines_of nodes net line (with_entry log (if b then Err NoNode else if t then Err BadView else Ok (DidRead u k))) ≡ lines_of nodes net line log ++ []
+      lines_of nodes net line (with_entry log (read_to b t u k)) ≡ lines_of nodes net line log ++ []
   read_nothing true t u k log same = sym (append-nil (lines_of nodes net line log))
   read_nothing false true u k log same = sym (append-nil (lines_of nodes net line log))
   read_nothing false false u k log same =
       let text = event_line nodes net line (λ p. history.packet p (DidRead u k ∷ log)) (event.Read u k) (Ok (reply_of (DidRead u k))) in
       ap (λ (b : Bool). lines_of nodes net line log ++ (if b then [] else text)) same
+
+equals : (v k : ℕ) → v ≡ k → (v == k) ≡ true
+equals v k e = grind (arith, common_steps)
+
+differs : (v k : ℕ) → v ≢ k → (v == k) ≡ false
+differs v k ne = grind (arith, common_steps)
 
 -- ---- what a node does
 
@@ -143,20 +155,20 @@ module _ (s new : World) (ok : IsWorld s) (has : HasHistory s) (u : ℕ) (u_in :
         ap (λ (j : ℕ). with_entry log (reads s.opening (sight_after s.opening log) u j)) place ∙ ap (λ (x : Sight). with_entry log (reads s.opening x u k)) (sym (same_sight log s shows))
 
     -- of one that the node has not read
-    pub read_adds : (nodes : List Name) (net : Topology) (line : ℕ) (accepted : Bool) (old now : List ℕ) → (slice_index s.views u == k) ≡ false → Plays nodes net line (event.Read u k) accepted s new old now →
+    pub read_adds : (nodes : List Name) (net : Topology) (line : ℕ) (accepted : Bool) (old now : List ℕ) → slice_index s.views u ≢ k → Plays nodes net line (event.Read u k) accepted s new old now →
         Adds nodes net line (after_read s.opening u) s old now
     read_adds nodes net line accepted old now other p =
         let answer = read_answer p.reply p.applied in
         adds_of nodes net line s new (event.Read u k) p.reply (reads s.opening (sight_in s) u k) (after_read s.opening u) old now answer
         (read_moves s new ok u k u_in p.reply newest answer).shows read_makes
-        (λ entry e log shows. read_line nodes net line _ _ u k entry e log (ap (λ (v : ℕ). v == k) (sym (shows.view u)) ∙ other)) p.text_is
+        (λ entry e log shows. read_line nodes net line _ _ u k entry e log (differs (history.view u log) k (λ e. other (shows.view u ∙ e)))) p.text_is
 
     -- of the one that it has read
-    pub read_adds_nothing : (nodes : List Name) (net : Topology) (line : ℕ) (text : List ℕ) → (slice_index s.views u == k) ≡ true → Adds nodes net line (after_read s.opening u) s text text
+    pub read_adds_nothing : (nodes : List Name) (net : Topology) (line : ℕ) (text : List ℕ) → slice_index s.views u ≡ k → Adds nodes net line (after_read s.opening u) s text text
     read_adds_nothing nodes net line text same = record {
       text = [];
       text_is = sym (append-nil text);
-      lines = λ log shows. ap (λ (l : List Entry). lines_of nodes net line l) (read_makes log shows) ∙ read_nothing nodes net line _ _ u k log (ap (λ (v : ℕ). v == k) (sym (shows.view u)) ∙ same);
+      lines = λ log shows. ap (λ (l : List Entry). lines_of nodes net line l) (read_makes log shows) ∙ read_nothing nodes net line _ _ u k log (equals (history.view u log) k (sym (shows.view u) ∙ same));
     }
 
   -- an Act, by the newest board
@@ -243,12 +255,86 @@ round_adds nodes net line s mid k acted old text now m a b =
     subst (λ (j : ℕ). Adds nodes net line (after_visits s.opening j) s old now) (sym (add-one k))
     (adds_then nodes net line (after_visits s.opening k) (after_visit s.opening k) s mid old text now a m.shows (subst (λ (o : Setting). Adds nodes net line (after_visit o k) mid text now) m.opening b))
 
+-- ---- rounds until one has no Act
+
 -- rounds so far, with their lines
 pub record RoundsSo (nodes : List Name) (net : Topology) (line : ℕ) (s new : World) (old now : List ℕ) : Type 0 where
-  pub so : DrainSo s new
-  pub adds : Adds nodes net line (after_rounds s.opening so.rounds) s old now
+  pub opening : new.opening ≡ s.opening
+  pub rounds : ℕ
+  pub shows : (log : List Entry) → Shows log s → Shows (after_rounds s.opening rounds log) new
+  pub few : (ok : IsWorld s) → TakesFromBefore (after_rounds s.opening rounds) s ok new
+  pub acts : (log : List Entry) → Shows log s → (k : ℕ) → k < rounds → acts_in (after_rounds s.opening k log) < acts_in (after_rounds s.opening (suc k) log)
+  pub adds : Adds nodes net line (after_rounds s.opening rounds) s old now
 
-pub rounds_add : (nodes : List Name) (net : Topology) (line : ℕ) (s mid : World) (rounds : ℕ) (old text now : List ℕ) → mid.opening ≡ s.opening → ((log : List Entry) → Shows log s → Shows (after_rounds s.opening rounds log) mid) →
-    Adds nodes net line (after_rounds s.opening rounds) s old text → Adds nodes net line (after_round mid.opening) mid text now → Adds nodes net line (after_rounds s.opening (suc rounds)) s old now
-rounds_add nodes net line s mid rounds old text now same shows a b =
-    adds_then nodes net line (after_rounds s.opening rounds) (after_round s.opening) s mid old text now a shows (subst (λ (o : Setting). Adds nodes net line (after_round o) mid text now) same b)
+pub rounds_none : (nodes : List Name) (net : Topology) (line : ℕ) (s : World) (text : List ℕ) → RoundsSo nodes net line s s text text
+rounds_none nodes net line s text = record {
+  opening = refl;
+  rounds = 0;
+  shows = λ log k. k;
+  few = λ ok. (ok, λ id log k. omega arith);
+  acts = λ log k j lt. absurd (omega arith);
+  adds = adds_none nodes net line s text;
+}
+
+few_more : (s mid new : World) (rounds : ℕ) (b : Bool) → ((ok : IsWorld s) → TakesFromBefore (after_rounds s.opening rounds) s ok mid) → ((log : List Entry) → Shows log s → Shows (after_rounds s.opening rounds log) mid) →
+    Moves (after_round s.opening) b mid new → (ok : IsWorld s) → TakesFromBefore (after_rounds s.opening (suc rounds)) s ok new
+few_more s mid new rounds b few shows m ok =
+    let first = few ok in
+    let second = m.few first.0 in
+    (second.0, λ id log k. (let x = first.1 id log k in let y = second.1 id (after_rounds s.opening rounds log) (shows log k) in omega arith))
+
+-- no packet has more Acts before it than there are nodes
+before_few : (n made : ℕ) (place : Place) → acts_ahead n place made ≤ n
+before_few n made (Waits u Inbox) = omega arith
+before_few n made (Waits u (Link l)) = omega arith
+before_few n made (InHand u Inbox) = omega arith
+before_few n made (InHand u (Link l)) = omega arith
+before_few n made Ended = omega arith
+
+module _ (nodes : List Name) (net : Topology) (line : ℕ) (s mid new : World) (old text now : List ℕ) (so : RoundsSo nodes net line s mid old text) (acted : Bool) (m : Moves (after_round mid.opening) acted mid new)
+    (a : Adds nodes net line (after_round mid.opening) mid text now) where
+  moves_here : Moves (after_round s.opening) acted mid new
+  moves_here = subst (λ (o : Setting). Moves (after_round o) acted mid new) so.opening m
+
+  adds_here : Adds nodes net line (after_rounds s.opening (suc so.rounds)) s old now
+  adds_here = adds_then nodes net line (after_rounds s.opening so.rounds) (after_round s.opening) s mid old text now so.adds so.shows (subst (λ (o : Setting). Adds nodes net line (after_round o) mid text now) so.opening a)
+
+  pub rounds_more : acted ≡ true → RoundsSo nodes net line s new old now
+  rounds_more did =
+      let t = subst (λ (b : Bool). Moves (after_round s.opening) b mid new) did moves_here in
+      record {
+        opening = t.opening ∙ so.opening;
+        rounds = suc so.rounds;
+        shows = λ log k. t.shows (after_rounds s.opening so.rounds log) (so.shows log k);
+        few = few_more s mid new so.rounds true so.few so.shows t;
+        acts = λ log k j lt. by_round log k j (cases_lt j so.rounds) lt t;
+        adds = adds_here;
+      }
+    where
+      by_round : (log : List Entry) → Shows log s → (j : ℕ) → ((j < so.rounds) ⊎ (so.rounds ≤ j)) → j < suc so.rounds → Moves (after_round s.opening) true mid new →
+          acts_in (after_rounds s.opening j log) < acts_in (after_rounds s.opening (suc j) log)
+      by_round log k j (inl below) lt t = so.acts log k j below
+      by_round log k j (inr above) lt t =
+          let same : so.rounds ≡ j = omega arith in
+          subst (λ (i : ℕ). acts_in (after_rounds s.opening i log) < acts_in (after_rounds s.opening (suc i) log)) same (t.counts (after_rounds s.opening so.rounds log) (so.shows log k))
+
+  pub rounds_done : acted ≡ false → IsWorld s → AddsDrain nodes net line s new old now
+  rounds_done not ok =
+      let t = subst (λ (b : Bool). Moves (after_round s.opening) b mid new) not moves_here in
+      record {
+        text = adds_here.text;
+        text_is = adds_here.text_is;
+        opening = t.opening ∙ so.opening;
+        drained = λ log k. (
+          after_rounds s.opening (suc so.rounds) log,
+          record {
+            rounds = so.rounds;
+            ends = refl;
+            last_is_quiet = t.counts (after_rounds s.opening so.rounds log) (so.shows log k);
+            others_act = so.acts log k;
+            few_acts = λ id. (let f = few_more s mid new so.rounds false so.few so.shows t ok in let x = f.1 id log k in let y = before_few (nodes_of s.opening) (hops_made (floor_of s) s.records id) (ok.place id) in omega arith);
+          },
+          t.shows (after_rounds s.opening so.rounds log) (so.shows log k),
+          adds_here.lines log k,
+        );
+      }

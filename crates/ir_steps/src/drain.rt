@@ -50,6 +50,7 @@ fn read_newest(
     let event = Event::Read(node, version);
     if world.view(node) == version {
         world.apply(event).ok();
+        world.invariant();
     } else {
         play(world, text, net, line, event)?;
     }
@@ -75,7 +76,7 @@ fn try_act(
         world.old (string_bytes text.old) (string_bytes text.new)) }
 {
     world.invariant();
-    play(world, text, net, line, Event::Act(node))
+    Ok(play(world, text, net, line, Event::Act(node))?)
 }
 
 /// A node takes the first packet of a channel, if there is one, and acts on it; the answer is whether it did.
@@ -101,7 +102,7 @@ fn try_way(
 {
     world.invariant();
     play(world, text, net, line, Event::Take(node, way))?;
-    try_act(world, text, net, line, node)
+    Ok(try_act(world, text, net, line, node)?)
 }
 
 /// A node takes from the channel of each of its ports, in order, and acts; the answer is whether it had an Act.

@@ -100,7 +100,7 @@ fn push_event(text: &mut String, net: &Network<'_>, event: Event) -> Result<(), 
 /// Writes the number of a packet and the epoch of its stamp, each after a space.
 fn push_packet(text: &mut String, id: u32, packet: Option<&Record>) -> Result<(), AllocError>
     ensures { OnOk result (string_bytes text.new ≡ string_bytes text.old
-        ++ flat_map spaced (packet_words id (option_copied packet))) }
+        ++ flat_map spaced (packet_words id (option_copied packet.entry))) }
 {
     push_next_number(text, id as usize)?;
     match packet {
@@ -112,7 +112,7 @@ fn push_packet(text: &mut String, id: u32, packet: Option<&Record>) -> Result<()
 /// Writes what became of a packet, each word after a space.
 fn push_end(text: &mut String, net: &Network<'_>, packet: Option<&Record>) -> Result<(), AllocError>
     ensures { OnOk result (string_bytes text.new ≡ string_bytes text.old
-        ++ flat_map spaced (end_words (names net.now.graph.now) net.now.topology.now (option_copied packet))) }
+        ++ flat_map spaced (end_words (names net.now.graph.now) net.now.topology.now (option_copied packet.entry))) }
 {
     match packet {
         Some(packet) => push_fate(text, net, packet.fate),
