@@ -1,5 +1,5 @@
-use Rattle.std.proofs.Common.{◌≡◌, ◌≢◌, ℕ, zero, suc, ◌+◌, ◌-◌, ◌<◌, ◌≤◌, List, [], ◌∷◌, ◌++◌, append_assoc, length, take, get_or, slice_get, slice_index_or, Option, Some, None, refl, sym, ap, ◌∙◌, subst, arith, add-one, true, false, Bool, nat_lt, ◌⊎◌, inl, inr}
-use Rattle.std.specs.Prelude.{Result, Ok, Err, slice_index, nat_le, is_some, not, ◌||◌, ◌==◌, if◌then◌else◌}
+use Rattle.std.proofs.Common.{◌≡◌, ◌≢◌, ℕ, suc, ◌+◌, ◌-◌, ◌<◌, ◌≤◌, List, [], ◌∷◌, ◌++◌, append_assoc, length, take, get_or, slice_get, Option, Some, None, refl, sym, ap, ◌∙◌, subst, arith, add-one, true, false, Bool, ◌⊎◌, inl, inr}
+use Rattle.std.specs.Prelude.{Result, Ok, Err, slice_index, is_some, not, ◌==◌, if◌then◌else◌}
 use Rattle.std.proofs.lemmas.Grind.{common_steps}
 use Rattle.std.proofs.lemmas.Bool.{cases_lt}
 use Rattle.std.proofs.lemmas.List.{append-nil, take_more}
@@ -13,14 +13,13 @@ use Rattle.ir_core.specs.declared.event.Way.{Way}
 use Rattle.ir_core.specs.declared.event.Way.TheVariants.{Inbox, Link}
 use Rattle.ir_core.specs.declared.event.Reply.{Reply}
 use Rattle.ir_core.specs.declared.event.Refused.{Refused}
-use Rattle.ir_core.specs.declared.event.Refused.TheVariants.{NoNode, NoChannel, HandFull, HandEmpty, Empty, BadView}
+use Rattle.ir_core.specs.declared.event.Refused.TheVariants.{NoNode, HandFull, BadView}
 use Rattle.ir_core.specs.declared.packet.Held.{Held}
 use Rattle.ir_core.specs.declared.board.Board.{Board}
-use Rattle.ir_core.specs.Record.{Record}
 use Rattle.ir_core.specs.Setting.{Setting, nodes_of, channel_of}
-use Rattle.ir_core.specs.Entry.{Entry, DidInject, DidLearn, DidTake, DidRead, DidAct, DidChange, DidInstall, reply_of}
+use Rattle.ir_core.specs.Entry.{Entry, DidRead, reply_of}
 use Rattle.ir_core.specs.History as history
-use Rattle.ir_core.specs.Meaning.{Sight, ComesTo, sight_after, with_entry, reads, takes, takes_from, takes_first, acts, acts_on, ruling_on, record_at}
+use Rattle.ir_core.specs.Meaning.{Sight, sight_after, with_entry, reads, takes, takes_from, takes_first, acts, acts_on}
 use Rattle.ir_core.specs.World.{World, IsWorld, IsAnswer, Place, Waits, InHand, Ended, sight_in, after}
 use Rattle.ir_core.specs.Shows.{Shows}
 use Rattle.ir_core.specs.Drain.{acts_in, after_read, after_act, after_take, after_way, after_ports, after_visit, after_visits, after_round, after_rounds}

@@ -1,12 +1,10 @@
-use Rattle.std.proofs.Common.{◌≡◌, ℕ, suc, ◌+◌, ◌*◌, ◌<◌, List, [], ◌∷◌, length, slice_get, get_or, slice_index_or, Option, Some, None, refl, sym, ap, ◌∙◌, subst, arith, inl, inr}
-use Rattle.std.specs.Prelude.{Result, Ok, Err, IfErr, slice_index}
+use Rattle.std.proofs.Common.{◌≡◌, ℕ, suc, ◌+◌, ◌*◌, List, [], ◌∷◌, slice_get, None, refl, sym, ap, ◌∙◌, subst, inl, inr}
+use Rattle.std.specs.Prelude.{Result, Ok, Err, IfErr}
 use Rattle.std.proofs.lemmas.List.{ext_get_or}
 use Rattle.std.proofs.lemmas.Option.{same_Some, none-some}
 use Rattle.ir_core.specs.declared.event.Event.{Event}
 use Rattle.ir_core.specs.declared.event.Reply.{Reply}
 use Rattle.ir_core.specs.declared.event.Refused.{Refused}
-use Rattle.ir_core.specs.declared.packet.Held.{Held}
-use Rattle.ir_core.specs.Record.{Record}
 use Rattle.ir_core.specs.Setting.{Setting, nodes_of, links_of}
 use Rattle.ir_core.specs.Entry.{Entry, DidInject, DidLearn, DidTake, DidRead, DidAct, DidChange, DidInstall, reply_of}
 use Rattle.ir_core.specs.History as history

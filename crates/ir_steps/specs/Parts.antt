@@ -1,5 +1,5 @@
 -- What the parts of a drain do to a world and to a text.
-use Rattle.std.specs.Prelude.{◌≡◌, ℕ, List, [], ◌∷◌, ◌++◌, Bool, Result, Ok, Err, IfErr, is_ok, slice_get}
+use Rattle.std.specs.Prelude.{◌≡◌, ℕ, List, [], ◌++◌, Bool, Result, Ok, Err, IfErr, is_ok, slice_get}
 use Rattle.ir_model.specs.Graph.{Name}
 use Rattle.ir_model.specs.Topology.{Topology}
 use Rattle.ir_core.specs.declared.event.Event.{Event}

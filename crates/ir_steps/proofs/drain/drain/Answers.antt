@@ -1,4 +1,4 @@
-use Rattle.std.proofs.Common.{◌≡◌, ◌∙◌, sym, ap, string_bytes}
+use Rattle.std.proofs.Common.{◌∙◌, sym, ap, string_bytes}
 use Rattle.ir_model.specs.Graph.{names}
 use Rattle.ir_core.specs.Setting.{Setting}
 use Rattle.ir_core.specs.Drain.{after_rounds}

@@ -1,4 +1,4 @@
-use Rattle.std.proofs.Common.{◌≡◌, ◌∙◌, ◌-◌, List, ap, sym, length, string_bytes}
+use Rattle.std.proofs.Common.{◌∙◌, ◌-◌, List, ap, sym, length, string_bytes}
 use Rattle.ir_model.specs.Graph.{names}
 use Rattle.ir_core.specs.declared.board.Board.{Board}
 use Rattle.ir_core.specs.declared.event.Event.TheVariants as event
@@ -48,6 +48,5 @@ pub returns-in_ok-play-clause-lines : goal.returns-in_ok-play-clause-lines
 returns-in_ok-play-clause-lines c =
     let s : World = c.args.world.now in
     let newest = ap (λ (l : List Board). length l - 1) c.board_versions.ensures in
-    let other = λ e. c.if-view-version.false (c.view.ensures ∙ e) in
     read_adds s c.play.new.world c.invariant.ensures.world c.requires.history c.args.node c.requires.node_in (length c.board_versions.result.now - 1) newest
-    (names c.args.net.now.graph.now) c.args.net.now.topology.now c.args.line _ (string_bytes c.args.text.now) (string_bytes c.play.new.text) other c.in_ok-play.ensures
+    (names c.args.net.now.graph.now) c.args.net.now.topology.now c.args.line _ (string_bytes c.args.text.now) (string_bytes c.play.new.text) (λ e. c.if-view-version.false (c.view.ensures ∙ e)) c.in_ok-play.ensures

@@ -1,8 +1,7 @@
-use Rattle.std.proofs.Common.{◌≡◌, ◌∙◌, ◌<◌, ◌≤◌, ◌+◌, Bool, arith, refl, sym, ap, subst, string_bytes}
+use Rattle.std.proofs.Common.{◌≡◌, ◌∙◌, ◌+◌, Bool, arith, sym, ap, subst, string_bytes}
 use Rattle.ir_model.specs.Graph.{names}
 use Rattle.ir_core.specs.Setting.{Setting, nodes_of}
 use Rattle.ir_core.specs.Drain.{after_visits}
-use Rattle.ir_core.specs.World.{World}
 use Rattle.ir_core.proofs.Rounds.{RoundSo, round_none, round_more, round_all}
 use Rattle.ir_steps.specs.Parts.{Adds}
 use Rattle.ir_steps.proofs.Adding.{has_then, adds_none, round_adds}

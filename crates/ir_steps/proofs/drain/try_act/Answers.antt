@@ -1,4 +1,4 @@
-use Rattle.std.proofs.Common.{◌≡◌, ◌∙◌, Bool, sym, subst, string_bytes}
+use Rattle.std.proofs.Common.{◌∙◌, Bool, sym, subst, string_bytes}
 use Rattle.ir_model.specs.Graph.{names}
 use Rattle.ir_core.specs.Drain.{after_act}
 use Rattle.ir_core.specs.Quiet.{Moves}

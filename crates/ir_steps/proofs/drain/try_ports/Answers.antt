@@ -1,11 +1,10 @@
-use Rattle.std.proofs.Common.{◌≡◌, ◌∙◌, ◌<◌, ◌≤◌, ◌+◌, Bool, List, arith, refl, sym, ap, subst, length, take, string_bytes}
+use Rattle.std.proofs.Common.{◌∙◌, ◌<◌, ◌≤◌, ◌+◌, Bool, List, arith, sym, ap, subst, length, string_bytes}
 use Rattle.std.proofs.lemmas.List.{take_all}
 use Rattle.ir_model.specs.declared.Hop.{Hop}
 use Rattle.ir_model.specs.Graph.{names}
 use Rattle.ir_model.specs.Topology.{Topology, ports_of}
 use Rattle.ir_core.specs.Setting.{Setting, nodes_of}
 use Rattle.ir_core.specs.Drain.{after_ports}
-use Rattle.ir_core.specs.World.{World}
 use Rattle.ir_core.proofs.Rounds.{PortsSo, ports_none, ports_more, ports_all, port_read, port_channel}
 use Rattle.ir_steps.specs.Parts.{Adds}
 use Rattle.ir_steps.proofs.Adding.{has_then, adds_none, ports_add}

@@ -1,4 +1,4 @@
-use Rattle.std.proofs.Common.{◌≡◌, ◌∙◌, ◌<◌, List, sym, ap, subst, string_bytes}
+use Rattle.std.proofs.Common.{◌<◌, sym, subst, string_bytes}
 use Rattle.ir_model.specs.Graph.{names}
 use Rattle.ir_core.specs.Setting.{Setting, nodes_of}
 use Rattle.ir_core.specs.Drain.{after_take}

@@ -1,11 +1,9 @@
-use Rattle.std.proofs.Common.{◌≡◌, ◌∙◌, ◌<◌, Bool, refl, sym, ap, subst, string_bytes}
+use Rattle.std.proofs.Common.{◌∙◌, ◌<◌, Bool, refl, sym, ap, subst, string_bytes}
 use Rattle.std.specs.Prelude.{◌||◌}
 use Rattle.ir_model.specs.Graph.{names}
-use Rattle.ir_model.specs.Topology.{Topology}
 use Rattle.ir_core.specs.Setting.{Setting, nodes_of}
 use Rattle.ir_core.specs.Drain.{after_visit}
 use Rattle.ir_core.specs.Quiet.{Moves}
-use Rattle.ir_core.specs.World.{World}
 use Rattle.ir_core.proofs.Rounds.{visit_done}
 use Rattle.ir_steps.proofs.Adding.{has_then, visit_adds}
 use Rattle.ir_steps.proofs.drain.visit.Goals as goal
