@@ -2,7 +2,7 @@
 import { MOST_DRAWN, faultLines, readPlaces, readPlans, readScript, readTopology, readTrace } from "./reading.js";
 import { arranged, hopsBetween, placed } from "./placing.js";
 import { ownScript, sentencesOf, textWithout } from "./network.js";
-import { walkAlong } from "./playing.js";
+import { readSteps, walkAlong } from "./playing.js";
 import { inPage } from "./wording.js";
 import { Desk, bytesOf } from "./desk.js";
 import { byId, made, many } from "./page.js";
@@ -183,7 +183,7 @@ function giveScript() {
 // The playback of a large network waits until it is wanted.
 export function deferRun() {
   giveScript();
-  takeRun("", []);
+  takeRun("", [], []);
   store.set({ isRunDue: true });
   showControls();
 }
@@ -195,7 +195,7 @@ export async function askRun() {
   const { isOwnTrace: own, plan, topology, script, trace } = store.now;
   const words = own ? ["check", "--explain", ...planWords(), "topology", "script", "trace"] : ["sim", "--explain", ...runWords(), "topology", "script"];
   if (!plan) {
-    takeRun("", []);
+    takeRun("", [], []);
     return;
   }
   const answer = await desk.ask("run", words, topology, script, own ? trace : "");
@@ -207,19 +207,28 @@ export async function askRun() {
   if (answer.status > 1 && further.length > 0) tell(inPage(further[0]).said, "fault");
   if (own) byId("own").open = true;
   if (own && answer.status === 0) made(byId("trace-told"), "li", `check: ${answer.output.trim()}`);
-  takeRun(own ? trace : answer.output, readScript(script, store.now.graph).commands);
+  const steps = await stepsText(topology, script);
+  if (steps === null || !store.now.graph) return;
+  takeRun(own ? trace : answer.output, readScript(script, store.now.graph).commands, readSteps(steps));
   await askEpochs();
 }
 
-// A trace to be played.
-function takeRun(trace, commands) {
+// What the engine says that the script comes to, as JSON; nothing where it refuses it, and null where a newer one was asked for.
+async function stepsText(topology, script) {
+  const answer = await desk.ask("steps", ["sim", "--steps", "--json", ...runWords(), "topology", "script"], topology, script);
+  if (!answer) return null;
+  return answer.status === 0 ? answer.output : "";
+}
+
+// A trace to be played, beside the steps of its script.
+function takeRun(trace, commands, steps) {
   const { graph, plan, isOwnTrace, resumed } = store.now;
   keepText("trace", trace);
   if (!isOwnTrace) {
     byId("trace").value = trace;
     showGutter("trace");
   }
-  store.set({ rows: graph && trace !== "" ? readTrace(trace, graph).rows : [], commands: graph ? commands : [], plans: plan ? [plan] : [], resumed: null });
+  store.set({ rows: graph && trace !== "" ? readTrace(trace, graph).rows : [], commands: graph ? commands : [], steps, plans: plan ? [plan] : [], resumed: null });
   schedule();
   const moment = resumed && store.now.moments.find(it => it.line === resumed.line);
   if (!moment) return;
@@ -257,7 +266,7 @@ export function redraw() {
 }
 
 export async function refresh() {
-  store.set({ plan: null, walk: null, rows: [], commands: [] });
+  store.set({ plan: null, walk: null, rows: [], commands: [], steps: [] });
   readGraph();
   drawNetwork(clicks);
   showNames();

@@ -224,14 +224,14 @@ clicks.onSet = changes => {
 
 // Writes lines that act at the step of the playback, where the script can be read; what comes after them stays.
 function actHere(linesOf) {
-  const { graph, script, rows, step, last, isRunDue, isPlaying } = store.now, { commands, fault } = readScript(script, graph);
+  const { graph, script, rows, steps, step, last, isRunDue, isPlaying } = store.now, { commands, fault } = readScript(script, graph);
   showTab("run");
   if (fault) {
     goToLine("script", fault.line);
     return;
   }
-  const moments = new Player(graph, rows, commands).moments, at = isRunDue || step >= last ? Infinity : step;
-  const { text, line } = scriptAt(graph, rows, commands, at, linesOf(momentAt(moments, at)));
+  const moments = new Player(graph, rows, commands, steps).moments, at = isRunDue || step >= last ? Infinity : step;
+  const { text, line } = scriptAt({ graph, rows, commands, steps }, at, linesOf(momentAt(moments, at)));
   store.set({ resumed: { line, isPlaying } });
   setScript(text);
 }

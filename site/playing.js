@@ -49,32 +49,61 @@ export function joined(graph, down) {
   return seen.size === graph.names.length;
 }
 
-// A queue of a map, made where there is none.
-export function queueAt(queues, key) {
-  if (!queues.has(key)) queues.set(key, []);
-  return queues.get(key);
+// What the engine says that a script came to, of the JSON of its `sim --steps`: nothing where it answered nothing.
+export function readSteps(text) {
+  return text.trim() === "" ? [] : JSON.parse(text).events;
 }
 
-// Plays a script beside a trace: which packet goes on at which line. Lines take a step each, `inject` lines that follow one
-// another one step together, and `take` and `read` none; a drain takes a step for each hop, which all packets under way make
-// together. Where a packet goes is what the trace says. A moment is { step, line, text, said, refused, epochs, floor, down }.
+// The ways of packets by those steps: by the number of each its places and its fate, in the words of a trace.
+export function waysOf(steps, graph) {
+  const ways = new Map(), at = name => graph.numbers.get(name);
+  for (const it of steps) {
+    if (it.event === "inject") ways.set(it.packet, { stations: [{ node: at(it.from), epoch: it.epoch }], fate: "left" });
+    if (it.event !== "act") continue;
+    const way = ways.get(it.packet), { epoch } = it;
+    if (way.stations.at(-1).epoch !== epoch) way.stations.push({ node: at(it.node), epoch });
+    if (it.next !== undefined) way.stations.push({ node: at(it.next), epoch });
+    else way.fate = [it.fate, ...it.link || []].join(" ");
+  }
+  return ways;
+}
+
+// Whether a packet of a trace went such a way. The node at which a packet was lost before it was judged is no hop of it.
+export function wentBy({ row, stations }, way) {
+  if (!way || row.fate.join(" ") !== way.fate) return false;
+  const isMissing = stations.length === way.stations.length - 1, isSame = ({ node, epoch }, i) => node === way.stations[i].node && epoch === way.stations[i].epoch;
+  return (isMissing || stations.length === way.stations.length) && stations.every(isSame);
+}
+
+// The line of a script that does what a node did.
+function lineOf({ event, node, from, version }) {
+  if (event === "read") return `read ${node} ${version}`;
+  if (event === "act") return `act ${node}`;
+  return `take ${node} ${from === undefined ? "inbox" : "from " + from}`;
+}
+
+// Plays a script by the steps that the engine says it came to, beside the trace of its packets: which packet goes on at which
+// line. Lines take a step each, `inject` lines that follow one another one step together, and `take` and `read` none. In a
+// drain the Acts that follow one another on different packets are one step. A packet of the trace that went another way than
+// the steps say comes after the last line. A moment is { step, line, text, said, refused, epochs, floor, down }.
 export class Player {
-  constructor(graph, rows, commands) {
+  constructor(graph, rows, commands, steps) {
+    const ways = waysOf(steps, graph), byLine = new Map();
+    for (const it of steps) {
+      if (!byLine.has(it.line)) byLine.set(it.line, []);
+      byLine.get(it.line).push(it);
+    }
     this.graph = graph;
     this.packets = rows.map(row => ({ row, stations: stationsOf(row), times: [], ends: Infinity }));
-    this.waiting = [...this.packets].sort((a, b) => a.row.id - b.row.id);
-    this.inboxes = new Map();
-    this.channels = new Map();
-    this.hands = new Map();
+    this.numbered = new Map(this.packets.filter(packet => wentBy(packet, ways.get(packet.row.id))).map(packet => [packet.row.id, packet]));
     this.step = 0;
     this.now = { epochs: 1, floor: 1, down: new Set() };
-    this.changes = 0;
     this.moments = [];
     this.lines = [];
     this.drained = new Map();
     this.told({ line: 0, text: "" }, "the opening: epoch 1");
     for (const command of commands) {
-      this.play(command);
+      this.play(command, byLine.get(command.line) || []);
       if (command.name === "drain") this.drained.set(command.line, this.step);
       else this.lines.push({ step: this.step, line: command.text, number: command.line });
     }
@@ -85,132 +114,83 @@ export class Player {
     this.moments.push({ step: this.step, line: command.line, name: command.name, text: command.text, said, refused: Boolean(refused), ...this.now });
   }
 
-  // Notes a line that is done by this step.
-  wrote(line) {
-    this.lines.push({ step: this.step, line });
+  // A line of the script, with the steps that it came to.
+  play(command, steps) {
+    const { name } = command, [it] = steps;
+    if (name === "drain") this.drain(command, steps);
+    else if (!it || name === "read" || name.startsWith("take")) return;
+    else if (it.refused !== undefined) this.change(command, "refused: " + it.refused, {}, true);
+    else if (name === "inject") this.inject(command, it);
+    else if (name === "act") this.act(command, it);
+    else if (name === "install") this.change(command, `epoch ${it.epoch} begins`, { epochs: it.epoch });
+    else if (name === "retire") this.change(command, `the epochs below ${it.epoch} are retired`, { floor: it.epoch });
+    else if (name === "learn") this.change(command, `the injector knows epoch ${it.epoch}`, {});
+    else this.mark(command, it);
   }
 
   // A change takes a step, also where it is refused.
-  change(command, refusal, next, said) {
+  change(command, said, next, refused = false) {
     this.step += 1;
-    if (!refusal) this.now = { ...this.now, ...next };
-    if (!refusal && command.name !== "learn") this.changes += 1;
-    this.told(command, refusal ? "refused: " + refusal : said, refusal);
+    this.now = { ...this.now, ...next };
+    this.told(command, said, refused);
   }
 
-  play(command) {
-    const { name, given } = command, { epochs, floor, down } = this.now, names = this.graph.names;
-    if (name === "inject") this.inject(command);
-    else if (name === "drain") this.drain(command);
-    else if (name === "act") this.act(command);
-    else if (name === "take") this.take(given[0], queueAt(this.channels, given[2] + " " + given[0]));
-    else if (name === "take inbox") this.take(given[0], queueAt(this.inboxes, given[0]));
-    else if (name === "install") {
-      const refusal = epochs === 64 ? "EpochsFull" : joined(this.graph, down) ? "" : "Disconnected";
-      this.change(command, refusal, { epochs: epochs + 1 }, `epoch ${epochs + 1} begins`);
-    } else if (name === "retire") {
-      const refusal = given[0] > epochs ? "NoEpoch" : given[0] <= floor ? "Same" : "";
-      this.change(command, refusal, { floor: given[0] }, `the epochs below ${given[0]} are retired`);
-    } else if (name === "learn") {
-      this.change(command, given[0] < 1 || given[0] > epochs ? "NoEpoch" : "", {}, `the injector knows epoch ${given[0]}`);
-    } else if (name === "down" || name === "up") {
-      const pair = pairOf(given[0], given[1]), next = new Set(down), goes = name === "down";
-      if (goes) next.add(pair);
-      else next.delete(pair);
-      this.change(command, down.has(pair) === goes ? "Same" : "", { down: next }, `the link between ${names[given[0]]} and ${names[given[1]]} is ${name}`);
-    }
+  // A link goes down or comes up.
+  mark(command, { event, link }) {
+    const pair = pairOf(...link.map(name => this.graph.numbers.get(name))), down = new Set(this.now.down);
+    if (event === "down") down.add(pair);
+    else down.delete(pair);
+    this.change(command, `the link between ${link[0]} and ${link[1]} is ${event}`, { down });
   }
 
-  inject(command) {
-    const [source, dest] = command.given, packet = this.waiting[0], last = this.moments[this.moments.length - 1];
-    const isThis = packet && packet.row.source === source && packet.row.dest === dest;
-    const said = isThis ? "packet " + packet.row.id : "no packet of the trace";
-    if (last.name === "inject") {
+  inject(command, { packet: id }) {
+    const packet = this.numbered.get(id), last = this.moments[this.moments.length - 1], said = "packet " + id;
+    if (last.name === "inject" && !last.refused) {
       last.said += ", " + said;
       last.text += "; " + command.text;
     } else {
       this.step += 1;
       this.told(command, said);
     }
-    if (!isThis) return;
-    this.waiting.shift();
-    packet.times.push(this.step);
-    queueAt(this.inboxes, source).push(packet);
+    if (packet) packet.times.push(this.step);
   }
 
-  take(node, queue) {
-    if (!this.hands.get(node) && queue.length > 0) this.hands.set(node, queue.shift());
-  }
-
-  // The packet in the hand goes on, over a restamp too.
-  act(command) {
-    const node = command.given[0], packet = this.hands.get(node);
-    this.hands.delete(node);
+  act(command, it) {
     this.step += 1;
-    this.told(command, packet ? "packet " + packet.row.id : "refused: HandEmpty", !packet);
-    if (!packet) return;
-    while (this.goOn(packet) && this.placeOf(packet) === node) this.step += 1;
-    if (packet.ends === Infinity) queueAt(this.channels, node + " " + this.placeOf(packet)).push(packet);
+    this.told(command, "packet " + it.packet);
+    this.step += this.acted(it);
   }
 
-  placeOf(packet) {
-    return packet.stations[packet.times.length - 1].node;
+  // What an Act does to its packet from this step on; the answer is how many steps more it takes: one for a new stamp.
+  acted({ packet: id, epoch, next }) {
+    const packet = this.numbered.get(id);
+    if (!packet) return 0;
+    const { stations, times } = packet, isNew = stations[times.length - 1].epoch !== epoch;
+    if (isNew) times.push(this.step);
+    const at = this.step + (isNew ? 1 : 0);
+    if (next === undefined) packet.ends = at;
+    else if (times.length < stations.length) times.push(at);
+    return isNew ? 1 : 0;
   }
 
-  // A packet comes to its next station, or has ended; the answer is whether it came to one.
-  goOn(packet) {
-    if (packet.times.length === packet.stations.length) {
-      packet.ends = this.step;
-      return false;
-    }
-    packet.times.push(this.step);
-    return true;
-  }
-
-  drain(command) {
+  // The nodes' events one after another; Acts on different packets in a row are one step.
+  drain(command, steps) {
+    const seen = new Set();
+    let more = 0;
     this.step += 1;
     this.told(command, "all packets move until none can");
-    this.carry(this.packets.filter(packet => packet.times.length > 0 && packet.ends === Infinity), true);
-    for (const queues of [this.inboxes, this.channels, this.hands]) queues.clear();
-  }
-
-  // Which packets are in hands and queues, in the order in which they are taken: { packet, node, from }, where `from` is null
-  // in a hand, and -1 in an inbox.
-  waitingPackets() {
-    const all = [...this.hands].map(([node, packet]) => ({ packet, node, from: null }));
-    for (const [node, queue] of this.inboxes) for (const packet of queue) all.push({ packet, node, from: -1 });
-    for (const [key, queue] of this.channels) {
-      const [from, node] = key.split(" ").map(Number);
-      for (const packet of queue) all.push({ packet, node, from });
-    }
-    return all;
-  }
-
-  // All of these packets go on together, a station a step, until each has ended. What a node does with one is noted as lines,
-  // at a new stamp once for both stations there.
-  carry(under, isNoted) {
-    let held = new Map();
-    for (let left = under; left.length > 0; this.step += 1) {
-      const queued = this.waitingPackets().filter(({ packet }) => left.includes(packet)), next = new Map();
-      for (const queues of [this.inboxes, this.channels, this.hands]) queues.clear();
-      const others = left.filter(packet => !queued.some(it => it.packet === packet)).map(packet => ({ packet, node: held.get(packet) }));
-      for (const { packet, node, from } of [...others, ...queued]) {
-        if (from !== undefined && isNoted) this.noteHop(node, from);
-        if (!this.goOn(packet) || node === undefined) continue;
-        if (this.placeOf(packet) === node) next.set(packet, node);
-        else queueAt(this.channels, node + " " + this.placeOf(packet)).push(packet);
+    for (const it of steps) {
+      if (it.event !== "read" && seen.has(it.packet)) {
+        this.step += 1 + more;
+        more = 0;
+        seen.clear();
       }
-      held = next;
-      left = left.filter(packet => packet.ends === Infinity);
-      if (left.length === 0) return;
+      this.lines.push({ step: this.step, line: lineOf(it) });
+      if (it.event !== "act") continue;
+      seen.add(it.packet);
+      more = Math.max(more, this.acted(it));
     }
-  }
-
-  noteHop(node, from) {
-    const { names } = this.graph;
-    if (from !== null) this.wrote(`take ${names[node]} ${from < 0 ? "inbox" : "from " + names[from]}`);
-    this.wrote(`read ${names[node]} ${this.changes}`);
-    this.wrote(`act ${names[node]}`);
+    this.step += more;
   }
 
   // The lines that do what was done up to a step: those of the script, and for a drain what its nodes did.
@@ -218,15 +198,18 @@ export class Player {
     return this.lines.filter(it => it.step <= step).map(it => it.line);
   }
 
-  // After the last line: what else the trace says, and packets that no line injected.
+  // After the last line: the packets that no step has, a place a step, together.
   finish() {
-    const left = this.packets.filter(packet => packet.ends === Infinity);
+    const left = this.packets.filter(packet => packet.ends === Infinity), others = left.filter(packet => packet.times.length === 0);
     if (left.length === 0) return;
     this.step += 1;
     this.told({ line: 0, text: "" }, "after the last line");
-    for (const packet of this.waiting) packet.times.push(this.step);
-    this.step += this.waiting.length > 0 ? 1 : 0;
-    this.carry(left, false);
+    for (const packet of left) if (packet.times.length > 0) packet.ends = this.step;
+    for (const packet of others) {
+      packet.times = packet.stations.map((_, i) => this.step + i);
+      packet.ends = this.step + packet.stations.length;
+    }
+    this.step = Math.max(this.step, ...others.map(packet => packet.ends));
   }
 }
 

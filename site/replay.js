@@ -14,8 +14,8 @@ const parts = { tokens: [], cells: [], texts: [], epochs: [], down: null, run: 0
 
 // Packets and moments: by the script where there is one, else all at once.
 function arrange() {
-  const { graph, rows, commands } = store.now;
-  const player = graph && commands.length > 0 ? new Player(graph, rows, commands) : null;
+  const { graph, rows, commands, steps } = store.now;
+  const player = graph && commands.length > 0 ? new Player(graph, rows, commands, steps) : null;
   const packets = player ? player.packets : scheduled(rows, false), moments = player ? player.moments : [];
   store.set({ packets, moments, epochs: epochsOf(rows, moments), last: Math.max(lastStep(packets), 0, ...moments.slice(-1).map(moment => moment.step)) });
 }

@@ -20,7 +20,7 @@ const TOUR = { view: "tour", beat: 0, isTourPlaying: false, isTourBegun: false, 
 
 // What the engine and the drawing make of both.
 const MADE = {
-  origin: -1, graph: null, drawing: null, isStale: false, plan: null, plans: [], walk: null, texts: {}, rows: [], commands: [], packets: [], moments: [], epochs: [],
+  origin: -1, graph: null, drawing: null, isStale: false, plan: null, plans: [], walk: null, texts: {}, rows: [], commands: [], steps: [], packets: [], moments: [], epochs: [],
   time: 0, last: 0, isPlaying: false, isRunDue: false, isLong: false, resumed: null, takesLandmarks: false, landmarkNodes: [],
 };
 

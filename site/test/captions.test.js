@@ -7,8 +7,12 @@ import { readPlans, readScript, readTopology, readTrace } from "../reading.js";
 const { graph } = readTopology("a b\nb c\nc d\nd a\n", "adjlist");
 const { plans } = readPlans("plan shortest 4 8\na 0 1 b 3 d\nb 1 0 a 2 c\nc 2 0 b 3 d\nd 3 0 a 2 c\n", graph);
 
+// Packets from a to c over b, each injected by a line, and drained by the last one.
 function packetsOf(trace, script) {
-  return new Player(graph, readTrace(trace, graph).rows, readScript(script, graph).commands).packets;
+  const { rows } = readTrace(trace, graph), { commands } = readScript(script, graph), line = commands.length, way = ["a", "b", "c"];
+  const injects = rows.map((row, i) => ({ line: i + 1, event: "inject", from: "a", to: "c", packet: i, epoch: 1 }));
+  const acts = way.flatMap((node, k) => rows.map((row, i) => ({ line, event: "act", node, packet: i, epoch: 1, ...k < 2 ? { next: way[k + 1] } : { fate: "delivered" } })));
+  return new Player(graph, rows, commands, [...injects, ...acts]).packets;
 }
 
 test("a caption has the interval that a packet finds", () => {

@@ -4,7 +4,7 @@ import path from "node:path";
 import { fileURLToPath } from "node:url";
 import { Engine } from "../engine.js";
 import { scriptAt } from "../network.js";
-import { Player, walkAlong } from "../playing.js";
+import { Player, readSteps, walkAlong } from "../playing.js";
 import { readPlans, readScript, readTopology, readTrace } from "../reading.js";
 
 const root = fileURLToPath(new URL("../..", import.meta.url));
@@ -88,9 +88,11 @@ function tryPlayback(engine) {
   for (const [name, topology, format, script, further] of runs) {
     const { graph } = readTopology(topology, format), { commands } = readScript(script, graph);
     const played = it => text(engine.run(["sim", "--format", format, ...further, "topology", "script"], topology, it).output), whole = played(script);
-    const { rows } = readTrace(whole, graph), { last } = { last: Math.max(...new Player(graph, rows, commands).packets.map(packet => packet.ends)) };
-    const differs = Array.from({ length: last + 2 }, (_, step) => step).filter(step => played(scriptAt(graph, rows, commands, step, []).text) !== whole);
-    told(differs.length === 0 && rows.length > 2, `the playback of ${name}`, `other ends from steps ${differs} of ${last}: ${differs.length > 0 ? played(scriptAt(graph, rows, commands, differs[0], []).text) + whole : ""}`);
+    const { rows } = readTrace(whole, graph), steps = readSteps(text(engine.run(["sim", "--steps", "--json", "--format", format, ...further, "topology", "script"], topology, script).output));
+    const { packets, moments } = new Player(graph, rows, commands, steps), last = Math.max(...packets.map(packet => packet.ends)), at = step => scriptAt({ graph, rows, commands, steps }, step, []).text;
+    const differs = Array.from({ length: last + 2 }, (_, step) => step).filter(step => played(at(step)) !== whole);
+    const isWhole = rows.length > 2 && moments.every(moment => moment.said !== "after the last line");
+    told(differs.length === 0 && isWhole, `the playback of ${name}`, `other ends from steps ${differs} of ${last}: ${differs.length > 0 ? played(at(differs[0])) + whole : ""}`);
   }
 }
 

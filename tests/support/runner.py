@@ -37,7 +37,7 @@ PARTS = {
     "library": ["library", "release"],
     "page": ["page"],
     "program": ["examples", "inputs", "words", "outputs", "called", "documents", "front", "plans", "figures", "circles", "live",
-                "whole", "sizes", "limits", "explained", "explained_inputs", "landmarks",
+                "whole", "steps", "sizes", "limits", "explained", "explained_inputs", "landmarks",
                 "terminals"],
     "plane": ["plane"],
     "python": ["python"],

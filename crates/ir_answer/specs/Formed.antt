@@ -28,7 +28,7 @@ shape_of Draw words = None
 shape_of Prefixes words = Some shapes.Prefixes
 shape_of Ranges words = Some shapes.Ranges
 shape_of Xdp words = None
-shape_of Sim words = Some (trace_shape words)
+shape_of Sim words = Some (if words.steps then shapes.Steps else trace_shape words)
 shape_of Live words = Some (trace_shape words)
 shape_of Check words = Some shapes.Check
 

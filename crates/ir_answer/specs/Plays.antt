@@ -19,6 +19,7 @@ use Rattle.ir_core.specs.declared.event.Step.{Step}
 use Rattle.ir_script.specs.Command.{line_step}
 use Rattle.ir_script.specs.Script.{Listing}
 use Rattle.ir_trace.specs.Written.{records_text, segments_text}
+use Rattle.ir_steps.specs.Told.{IsTold}
 use Rattle.ir_cli.specs.declared.words.Words.{Words}
 use Rattle.ir_cli.specs.Answer.{Answer, Ran, Found, Refused, NoThread}
 use Rattle.ir_cli.specs.Lines.{opening_line, reply_line}
@@ -56,13 +57,32 @@ pub record IsScriptRun (g : Adjacency) (words : Words) (root : ℕ) (script : Li
   pub trace : text ≡ run_text words.restamps (names g) (topology_of_graph g) world.records
   pub told : refused ≡ refused_text script.lines replies
 
--- the answer to a graph, a script and the number of a root: the script's run, or the refusal of the opening
-abbrev pub AnswersRun : Adjacency → Words → Listing Step → ℕ → Answer → Type 0
-AnswersRun g words script root (Ran text refused) = IsScriptRun g words root script text refused
-AnswersRun g words script root (Found text) = ⊥
-AnswersRun g words script root NoThread = ⊥
-AnswersRun g words script root (Refused line) =
+-- The same, of which the text has a line for each event that a step comes to.
+pub record IsStepsRun (g : Adjacency) (words : Words) (root : ℕ) (script : Listing Step) (text refused : List ℕ) : Type 0 where
+  pub setting : Setting
+  pub replies : List (Result Reply Refusal)
+  pub world : World
+  pub accepted : open_refused (opening_by words (topology_of_graph g) root) ≡ None
+  pub opened : IsOpenedWith (opening_by words (topology_of_graph g) root) setting
+  pub steps : IsTold (names g) setting script.lines script.steps replies world text
+  pub in_memory : list_any wants_memory replies ≡ false
+  pub told : refused ≡ refused_text script.lines replies
+
+-- the text of a run with its refused lines, or the refusal of the opening
+abbrev pub AnswersRunBy : (Adjacency → Words → ℕ → Listing Step → List ℕ → List ℕ → Type 0) → Adjacency → Words → Listing Step → ℕ → Answer → Type 0
+AnswersRunBy runs g words script root (Ran text refused) = runs g words root script text refused
+AnswersRunBy runs g words script root (Found text) = ⊥
+AnswersRunBy runs g words script root NoThread = ⊥
+AnswersRunBy runs g words script root (Refused line) =
     (e : OpenError) × (e ≢ openings.NoMemory) × IsOpenRefusal (opening_by words (topology_of_graph g) root) e × (line ≡ opening_line e)
+
+-- the answer to a graph, a script and the number of a root, by whether the words ask for the steps
+abbrev pub AnswersRunIf : Bool → Adjacency → Words → Listing Step → ℕ → Answer → Type 0
+AnswersRunIf true = AnswersRunBy IsStepsRun
+AnswersRunIf false = AnswersRunBy IsScriptRun
+
+abbrev pub AnswersRun : Adjacency → Words → Listing Step → ℕ → Answer → Type 0
+AnswersRun g words script root answer = AnswersRunIf words.steps g words script root answer
 
 -- the answer to a graph and the lines of a script: the script's first fault comes before the refusal of the opening
 abbrev pub AnswersScript : Words → List (List ℕ) → Adjacency → Answer → Type 0

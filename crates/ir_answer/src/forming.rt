@@ -26,6 +26,7 @@ fn shape_of(sub: Sub, words: &Words) -> Option<Shape>
         Sub::Draw | Sub::Xdp => None,
         Sub::Prefixes => Some(Shape::Prefixes),
         Sub::Ranges => Some(Shape::Ranges),
+        Sub::Sim if words.steps => Some(Shape::Steps),
         Sub::Sim | Sub::Live if words.restamps == 0 => Some(Shape::Trace),
         Sub::Sim | Sub::Live => Some(Shape::Restamps),
         Sub::Check => Some(Shape::Check),

@@ -3,13 +3,14 @@ ghost use Rattle.std.specs.{Prelude.{◌≡◌, ◌++◌, false, IfOk, OnOk, str
 ghost use Rattle.ir_model.specs.{Graph.names, OfGraph.topology_of_graph, Text.lines};
 ghost use Rattle.ir_trace.specs.Written.{HaveSegments};
 ghost use Rattle.ir_cli.specs.{Lines.{reply_line, steps_text}, Openings.{AnswersTopology}};
-ghost use Rattle.ir_answer.specs.{Plays.{wants_memory, refused_text, run_text, listing_in, AnswersRun, AnswersScript}, Stops.Gives};
+ghost use Rattle.ir_answer.specs.{Plays.{wants_memory, refused_text, run_text, listing_in, AnswersRun, AnswersRunBy, AnswersScript, IsScriptRun, IsStepsRun}, Stops.Gives};
 
 use crate::asking::{AnswerStop, Asked, opening_stop, read_asked};
 use ir_cli::{RunReply, Words, opening_of};
 use ir_core::{Played, Record, Refused, Reply, Step, play_by};
 use ir_graph::Graph;
 use ir_plan::Crew;
+use ir_steps::{ToldRun, tell_run_by};
 use ir_tables::Topology;
 use ir_trace::{trace_text, trace_text_2};
 use std::alloc::{AllocError, Global};
@@ -99,15 +100,15 @@ fn run_texts(
     Ok((trace, refused))
 }
 
-/// The answer to what is asked for: the run of the script, or what refuses its opening.
-fn play_asked(
+/// The trace of the script's run, or what refuses its opening.
+fn trace_asked(
     crew: &impl Crew,
     alloc: Global,
     words: &Words,
     asked: &Asked<Step>,
 ) -> Result<RunReply, AnswerStop>
     requires { asked.now.topology ≡ topology_of_graph asked.now.graph }
-    ensures { Gives (AnswersRun asked.now.graph words.now (listing_in asked.now.script) asked.now.root) result }
+    ensures { Gives (AnswersRunBy IsScriptRun asked.now.graph words.now (listing_in asked.now.script) asked.now.root) result }
 {
     let topology = &asked.topology;
     let Ok(opening) = opening_of(alloc, words, topology, asked.root) else {
@@ -125,8 +126,72 @@ fn play_asked(
     }
 }
 
-/// The answer of `sim` to the texts of a topology and of a script: the trace of the packets, and a line for each step
-/// that was refused. Plans are made by a crew.
+/// The text of a run's steps, and the steps that were refused.
+fn told_texts(
+    alloc: Global,
+    lines: &[usize],
+    told: ToldRun,
+) -> Result<(String, Vec<(usize, Refused)>), AllocError>
+    ensures in_memory { IfOk result (λ _. list_any wants_memory told.replies.items ≡ false) }
+    ensures text { IfOk result (λ texts. string_bytes texts.0 ≡ string_bytes told.text) }
+    ensures told { IfOk result (λ texts. steps_text texts.1.items ≡ refused_text lines.now told.replies.items) }
+{
+    let ToldRun {
+        world: _,
+        replies,
+        text,
+    } = told;
+    if wants_memory(replies.as_slice()) {
+        return Err(AllocError);
+    }
+    let refused = refused_steps(alloc, lines, replies.as_slice())?;
+    Ok((text, refused))
+}
+
+/// The steps of the script's run, or what refuses its opening.
+fn steps_asked(
+    crew: &impl Crew,
+    alloc: Global,
+    words: &Words,
+    asked: &Asked<Step>,
+) -> Result<RunReply, AnswerStop>
+    requires { asked.now.topology ≡ topology_of_graph asked.now.graph }
+    ensures { Gives (AnswersRunBy IsStepsRun asked.now.graph words.now (listing_in asked.now.script) asked.now.root) result }
+{
+    let (graph, topology) = (&asked.graph, &asked.topology);
+    let Ok(opening) = opening_of(alloc, words, topology, asked.root) else {
+        return Err(AnswerStop::NoMemory);
+    };
+    let lines = asked.script.lines();
+    let steps = asked.script.steps();
+    match tell_run_by(crew, alloc, graph, topology, opening, lines, steps) {
+        Ok(run) => match told_texts(alloc, lines, run) {
+            Ok((text, refused)) => Ok(RunReply::Ran(text, refused)),
+            Err(_) => Err(AnswerStop::NoMemory),
+        },
+        Err(error) => Err(opening_stop(error)),
+    }
+}
+
+/// The answer to what is asked for: the run of the script, or what refuses its opening.
+fn play_asked(
+    crew: &impl Crew,
+    alloc: Global,
+    words: &Words,
+    asked: &Asked<Step>,
+) -> Result<RunReply, AnswerStop>
+    requires { asked.now.topology ≡ topology_of_graph asked.now.graph }
+    ensures { Gives (AnswersRun asked.now.graph words.now (listing_in asked.now.script) asked.now.root) result }
+{
+    if words.steps {
+        steps_asked(crew, alloc, words, asked)
+    } else {
+        trace_asked(crew, alloc, words, asked)
+    }
+}
+
+/// The answer of `sim` to the texts of a topology and of a script: the trace of the packets or the steps of the run,
+/// and a line for each step that was refused. Plans are made by a crew.
 pub fn simulate(
     crew: &impl Crew,
     alloc: Global,

@@ -81,6 +81,25 @@ figure_form words =
     else if is_word_at words 1 (codes "cycle") then listed (codes "$:{$:[") Names
     else plain (codes "$:#")
 
+-- the form of an Act, by what became of its packet
+abbrev pub act_form : List Name → LineForm
+act_form words =
+    if is_word_at words 5 (codes "sent") then plain (codes "{\"line\":#,\"event\":$,\"node\":$,\"packet\":#,\"epoch\":#,~\"next\":$}")
+    else if has_link words 5 then plain (codes "{\"line\":#,\"event\":$,\"node\":$,\"packet\":#,\"epoch\":#,\"fate\":$,\"link\":[$,$]}")
+    else plain (codes "{\"line\":#,\"event\":$,\"node\":$,\"packet\":#,\"epoch\":#,\"fate\":$}")
+
+-- the form of a line of a run's steps, by what stands after its number
+abbrev pub step_form : List Name → LineForm
+step_form words =
+    if is_word_at words 1 (codes "refused") then listed (codes "{\"line\":#,~\"refused\":$,\"event\":[") Names
+    else if is_word_at words 1 (codes "inject") then plain (codes "{\"line\":#,\"event\":$,\"from\":$,\"to\":$,\"packet\":#,\"epoch\":#}")
+    else if is_word_at words 1 (codes "take") then (if is_word_at words 3 (codes "from") then plain (codes "{\"line\":#,\"event\":$,\"node\":$,~\"from\":$,\"packet\":#}") else plain (codes "{\"line\":#,\"event\":$,\"node\":$,~\"packet\":#}"))
+    else if is_word_at words 1 (codes "read") then plain (codes "{\"line\":#,\"event\":$,\"node\":$,\"version\":#}")
+    else if is_word_at words 1 (codes "act") then act_form words
+    else if is_word_at words 1 (codes "install") then plain (codes "{\"line\":#,\"event\":$,\"kind\":$,\"root\":$,\"epoch\":#}")
+    else if is_word_at words 1 (codes "learn") || is_word_at words 1 (codes "retire") then plain (codes "{\"line\":#,\"event\":$,\"epoch\":#}")
+    else plain (codes "{\"line\":#,\"event\":$,\"link\":[$,$]}")
+
 -- the form of the first line of a text
 abbrev pub head_form : Shape → List Name → LineForm
 head_form shapes.Plan words = plain (codes "{$:$,\"nodes\":#,\"intervals\":#,\"rows\":[")
@@ -94,6 +113,7 @@ head_form shapes.Prefixes words = plain (codes "{$:$,\"nodes\":#,\"bits\":#,\"en
 head_form shapes.Ranges words = plain (codes "{$:$,\"nodes\":#,\"count\":#,\"rows\":[")
 head_form shapes.Trace words = plain (codes "{$:#,\"packets\":[")
 head_form shapes.Restamps words = plain (codes "{$:#,\"packets\":[")
+head_form shapes.Steps words = plain (codes "{$:#,\"events\":[")
 head_form shapes.Check words = if is_word_at words 0 (codes "ok") then plain (codes "{$:#}") else plain (codes "{~\"line\":#,\"finding\":$}")
 
 -- the form of a further line, by its place, counted from 0
@@ -109,6 +129,7 @@ row_form shapes.Prefixes place words = listed (codes "{\"node\":$,\"label\":#,\"
 row_form shapes.Ranges place words = listed (codes "{\"node\":$,\"label\":#,\"ranges\":[") (Pairs (codes "{\"from\":<,\"to\":>,\"next\":$}"))
 row_form shapes.Trace place words = if has_link words 5 then listed (codes "{\"id\":#,\"epoch\":#,\"from\":$,\"to\":$,\"weight\":#,\"fate\":$,\"link\":[$,$],\"hops\":[") Names else listed (codes "{\"id\":#,\"epoch\":#,\"from\":$,\"to\":$,\"weight\":#,\"fate\":$,\"hops\":[") Names
 row_form shapes.Restamps place words = if has_link words 4 then listed (codes "{\"id\":#,\"from\":$,\"to\":$,\"weight\":#,\"fate\":$,\"link\":[$,$],\"segments\":[") Segments else listed (codes "{\"id\":#,\"from\":$,\"to\":$,\"weight\":#,\"fate\":$,\"segments\":[") Segments
+row_form shapes.Steps place words = step_form words
 row_form shapes.Check place words = plain (codes "{~\"line\":#,\"finding\":$}")
 
 -- the form of a line, by the shape of its text, by its place, counted from 0, and by its words

@@ -1,7 +1,7 @@
 //! The forms of lines.
 ghost use Rattle.std.specs.Prelude.{◌≡◌, true};
 ghost use Rattle.ir_model.specs.Text.{words_of};
-ghost use Rattle.ir_json.specs.Forms.{word_at, has_link, figure_form, head_form, row_form, form_of, listed, plain, further_held, is_ascii, is_ascii_further, IsForm};
+ghost use Rattle.ir_json.specs.Forms.{word_at, has_link, figure_form, act_form, step_form, head_form, row_form, form_of, listed, plain, further_held, is_ascii, is_ascii_further, IsForm};
 ghost use Rattle.ir_json.specs.JsonText.{lead};
 
 use crate::fill::first_word;
@@ -41,6 +41,15 @@ const RESTAMPS_ROW: &str = "{\"id\":#,\"from\":$,\"to\":$,\"weight\":#,\"fate\":
 
 const RESTAMPS_ROW_WITH_LINK: &str =
     "{\"id\":#,\"from\":$,\"to\":$,\"weight\":#,\"fate\":$,\"link\":[$,$],\"segments\":[";
+
+const INJECT: &str = "{\"line\":#,\"event\":$,\"from\":$,\"to\":$,\"packet\":#,\"epoch\":#}";
+
+const ACT_ON: &str = "{\"line\":#,\"event\":$,\"node\":$,\"packet\":#,\"epoch\":#,~\"next\":$}";
+
+const ACT_WITH_LINK: &str =
+    "{\"line\":#,\"event\":$,\"node\":$,\"packet\":#,\"epoch\":#,\"fate\":$,\"link\":[$,$]}";
+
+const ACT_END: &str = "{\"line\":#,\"event\":$,\"node\":$,\"packet\":#,\"epoch\":#,\"fate\":$}";
 
 const FINDING: &str = "{~\"line\":#,\"finding\":$}";
 
@@ -123,6 +132,47 @@ fn figure_form(line: &[u8]) -> Form
     }
 }
 
+/// The form of an Act, by what became of its packet.
+fn act_form(line: &[u8]) -> Form
+    ensures { IsForm (act_form (words_of line.now)) result }
+{
+    if is(word_at(line, 5), "sent") {
+        plain(ACT_ON)
+    } else if has_link(line, 5) {
+        plain(ACT_WITH_LINK)
+    } else {
+        plain(ACT_END)
+    }
+}
+
+/// The form of a line of a run's steps, by what stands after its number.
+fn step_form(line: &[u8]) -> Form
+    ensures { IsForm (step_form (words_of line.now)) result }
+{
+    let event = word_at(line, 1);
+    if is(event, "refused") {
+        listed("{\"line\":#,~\"refused\":$,\"event\":[", Items::Names)
+    } else if is(event, "inject") {
+        plain(INJECT)
+    } else if is(event, "take") {
+        if is(word_at(line, 3), "from") {
+            plain("{\"line\":#,\"event\":$,\"node\":$,~\"from\":$,\"packet\":#}")
+        } else {
+            plain("{\"line\":#,\"event\":$,\"node\":$,~\"packet\":#}")
+        }
+    } else if is(event, "read") {
+        plain("{\"line\":#,\"event\":$,\"node\":$,\"version\":#}")
+    } else if is(event, "act") {
+        act_form(line)
+    } else if is(event, "install") {
+        plain("{\"line\":#,\"event\":$,\"kind\":$,\"root\":$,\"epoch\":#}")
+    } else if is(event, "learn") || is(event, "retire") {
+        plain("{\"line\":#,\"event\":$,\"epoch\":#}")
+    } else {
+        plain("{\"line\":#,\"event\":$,\"link\":[$,$]}")
+    }
+}
+
 /// The form of the first line of a text.
 fn head_form(shape: Shape, line: &[u8]) -> Form
     ensures { IsForm (head_form shape (words_of line.now)) result }
@@ -138,6 +188,7 @@ fn head_form(shape: Shape, line: &[u8]) -> Form
         Shape::Prefixes => plain("{$:$,\"nodes\":#,\"bits\":#,\"entries\":#,\"rows\":["),
         Shape::Ranges => plain("{$:$,\"nodes\":#,\"count\":#,\"rows\":["),
         Shape::Trace | Shape::Restamps => plain("{$:#,\"packets\":["),
+        Shape::Steps => plain("{$:#,\"events\":["),
         Shape::Check if is(word_at(line, 0), "ok") => plain("{$:#}"),
         Shape::Check => plain(FINDING),
     }
@@ -164,6 +215,7 @@ fn row_form(shape: Shape, place: usize, line: &[u8]) -> Form
         Shape::Trace => listed(TRACE_ROW, Items::Names),
         Shape::Restamps if has_link(line, 4) => listed(RESTAMPS_ROW_WITH_LINK, Items::Segments),
         Shape::Restamps => listed(RESTAMPS_ROW, Items::Segments),
+        Shape::Steps => step_form(line),
         Shape::Check => plain(FINDING),
     }
 }

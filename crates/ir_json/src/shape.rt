@@ -27,6 +27,8 @@ pub enum Shape {
     Trace,
     /// A trace of version 2.
     Restamps,
+    /// The steps of a run.
+    Steps,
     /// What a check came to.
     Check,
 }

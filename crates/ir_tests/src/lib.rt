@@ -38,6 +38,8 @@ mod tables;
 #[cfg(test)]
 mod texts;
 #[cfg(test)]
+mod told;
+#[cfg(test)]
 mod traces;
 #[cfg(test)]
 mod worlds;
