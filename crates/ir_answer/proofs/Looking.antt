@@ -1,5 +1,5 @@
 -- The answers that show a plan, by what was read before it is built.
-use Rattle.std.proofs.Common.{◌≡◌, ◌≢◌, ◌∙◌, ◌<◌, ℕ, Bool, length, List, Option, Some, None, MatchOption, string_bytes, refl, sym, ap, subst, true, true≢false, arith}
+use Rattle.std.proofs.Common.{◌≡◌, ◌≢◌, ◌∙◌, ◌<◌, ℕ, Bool, length, List, Option, Some, None, MatchOption, string_bytes, refl, sym, ap, subst, true, false, true≢false, arith}
 use Rattle.std.specs.Option.{option_map}
 use Rattle.ir_model.specs.declared.Detour.{Detour}
 use Rattle.ir_model.specs.declared.Kind.{Kind}
@@ -19,6 +19,7 @@ use Rattle.ir_script.specs.Order.{order_fault, IsOrder}
 use Rattle.ir_script.specs.declared.order_fault.OrderFaultKind.{OrderFaultKind}
 use Rattle.ir_cli.specs.declared.words.Words.{Words}
 use Rattle.ir_cli.specs.declared.words.Second.{Second}
+use Rattle.ir_cli.specs.declared.words.Span.{Span}
 use Rattle.ir_cli.specs.Kinds.{detour_of, kind_of}
 use Rattle.ir_cli.specs.Answer.{Answer, Ran, Found, Refused, NoThread}
 use Rattle.ir_core.specs.declared.event.OpenError.{OpenError}
@@ -30,7 +31,7 @@ use Rattle.ir_cli.specs.declared.words.Sub.{Sub}
 use Rattle.ir_cli.specs.declared.words.Sub.TheVariants.{Plan as Planning, Walk, Stats, Compare, Draw, Prefixes, Ranges as Ranging, Xdp, Sim, Live, Check}
 use Rattle.ir_answer.specs.declared.look.Show.{Show}
 use Rattle.ir_answer.specs.declared.look.Show.TheVariants.{Between, Beside, Drawing, Circle}
-use Rattle.ir_answer.specs.Looks.{from_name, to_name, drawn_name, Says, AnswerShows, AnswersEnds, AnswersBothEnds, AnswersDrawn, AnswersFigures, AnswersShow, AnswersAsked, AnswersLook, AnswersLabels, AreTexts, LookAnswers, IsNode, IsLabelling, AreShown, IsNetwork, IsOneDrawn, IsShow, lines_shown, RefusesLabels, RefusesEnds, RefusesFigures, RefusesShow}
+use Rattle.ir_answer.specs.Looks.{from_name, to_name, drawn_name, Says, AnswerShows, AnswersEnds, AnswersBothEnds, AnswersDrawn, AnswersFigures, AnswersShow, AnswersAsked, AnswersLook, AnswersLabels, AnswersRows, AnswersWithin, AreRows, AreTexts, RefusesRows, are_nodes, LookAnswers, IsNode, IsLabelling, AreShown, IsNetwork, IsOneDrawn, IsShow, lines_shown, RefusesLabels, RefusesEnds, RefusesFigures, RefusesShow}
 use Rattle.ir_plan.specs.Building.{Labelling, FromRoot, ByList, IsPlanBy, RefusesPlan}
 use Rattle.ir_show.specs.Alone.{IsWalkOfPlan}
 use Rattle.ir_answer.specs.Plans.{AnswersText, IsTextOfPlan}
@@ -104,9 +105,16 @@ of_figures detour None g answers show answer same holds = subst (λ (s : Show). 
 of_figures detour (Some second) g answers show answer (root, is, same) holds =
     of_root g (option_map string_bytes second.root) (λ u. answers (Beside (kind_of second.kind detour) u)) answer root is (subst (λ (s : Show). answers s answer) same holds)
 
+of_rows : (order_alone : Bool) (span : Option Span) (g : Adjacency) (answers : Show → Answer → Type 0) (show : Show) (answer : Answer)
+    → AreRows order_alone span g show → answers show answer → AnswersRows order_alone span g answers answer
+of_rows true span g answers show answer same holds = subst (λ (s : Show). answers s answer) same holds
+of_rows false None g answers show answer same holds = subst (λ (s : Show). answers s answer) same holds
+of_rows false (Some span) g answers show answer (are, same) holds =
+    subst (λ (b : Bool). AnswersWithin b span g answers answer) (sym are) (subst (λ (s : Show). answers s answer) same holds)
+
 of_show : (look : Sub) (words : Words) (g : Adjacency) (answers : Show → Answer → Type 0) (show : Show) (answer : Answer)
     → IsShow look words g show → answers show answer → AnswersAsked look words g answers answer
-of_show Planning words g answers show answer same holds = subst (λ (s : Show). answers s answer) same holds
+of_show Planning words g answers show answer is holds = of_rows words.order_alone words.nodes g answers show answer is holds
 of_show Walk words g answers show answer (a, b, first, second, same) holds =
     of_ends g (from_name words) (to_name words) (λ x y. answers (Between x y)) answer a b first second (subst (λ (s : Show). answers s answer) same holds)
 of_show Stats words g answers show answer is holds = of_figures (detour_of words.detour (length g)) words.second g answers show answer is holds
@@ -136,9 +144,20 @@ refuses_figures : (detour : Detour) (second : Option Second) (g : Adjacency) (an
 refuses_figures detour None g answers line refuses = absurd refuses
 refuses_figures detour (Some second) g answers line refuses = option_more (root_in (names g) (option_map string_bytes second.root)) (λ same. same) (λ u none. absurd none) refuses
 
+refuses_within : (are : Bool) (span : Span) (g : Adjacency) (answers : Show → Answer → Type 0) (line : List ℕ)
+    → AnswersWithin are span g (λ show answer. ⊥) (Refused line) → AnswersWithin are span g answers (Refused line)
+refuses_within true span g answers line refuses = absurd refuses
+refuses_within false span g answers line refuses = refuses
+
+refuses_rows : (order_alone : Bool) (span : Option Span) (g : Adjacency) (answers : Show → Answer → Type 0) (line : List ℕ)
+    → RefusesRows order_alone span g line → AnswersRows order_alone span g answers (Refused line)
+refuses_rows true span g answers line refuses = absurd refuses
+refuses_rows false None g answers line refuses = absurd refuses
+refuses_rows false (Some span) g answers line refuses = refuses_within (are_nodes span g) span g answers line refuses
+
 refuses_show : (look : Sub) (words : Words) (g : Adjacency) (answers : Show → Answer → Type 0) (line : List ℕ)
     → RefusesShow look words g line → AnswersAsked look words g answers (Refused line)
-refuses_show Planning words g answers line refuses = absurd refuses
+refuses_show Planning words g answers line refuses = refuses_rows words.order_alone words.nodes g answers line refuses
 refuses_show Walk words g answers line refuses = refuses_ends g (from_name words) (to_name words) (λ x y. answers (Between x y)) line refuses
 refuses_show Stats words g answers line refuses = refuses_figures (detour_of words.detour (length g)) words.second g answers line refuses
 refuses_show Draw words g answers line refuses = refuses_drawn (drawn_name words) words.svg (from_name words) (to_name words) g answers line refuses
