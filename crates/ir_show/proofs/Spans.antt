@@ -18,7 +18,7 @@ use Rattle.ir_trace.specs.Rows.{spaced}
 use Rattle.ir_show.specs.Plans.{IsPlanOver}
 use Rattle.ir_show.specs.PlanText.{node_words}
 use Rattle.ir_show.specs.SpanLines.{AreItsPorts, AreSpanLines, row_words, start_at}
-use Rattle.ir_show.specs.SpanText.{span_lines, span_starts}
+use Rattle.ir_show.specs.SpanText.{span_lines, span_starts, span_text, span_words}
 use Rattle.ir_show.specs.Words.{line_text}
 use Rattle.ir_show.specs.declared.span.SpanLines.{SpanLines}
 use Rattle.ir_show.proofs.PlanLines.{block_more, leads, range_more, start_within, starts_more}
@@ -83,9 +83,9 @@ module _ (net : Topology) (kind : Kind) (other : IsOfShortestWays kind) (numbers
   alone_starts = ap length same
 
 -- the lines of the nodes from one on, before another
-pub record AreSoFar (nodes : List Name) (s : Plan) (first u : ℕ) (text : List ℕ) (starts : ℕ) : Type 0 where
-  pub text : text ≡ flat_map (λ v. line_text (node_words nodes s v)) (range_with_len first (u - first))
-  pub starts : starts ≡ sum_by (λ v. length (row_in s v)) (range_with_len first (u - first))
+pub record AreSoFar (nodes : List Name) (s : Plan) (first u : ℕ) (told : List ℕ) (count : ℕ) : Type 0 where
+  pub text : told ≡ flat_map (λ v. line_text (node_words nodes s v)) (range_with_len first (u - first))
+  pub starts : count ≡ sum_by (λ v. length (row_in s v)) (range_with_len first (u - first))
 
 pub none_so_far : (nodes : List Name) (s : Plan) (first : ℕ) (text : List ℕ) → text ≡ [] → AreSoFar nodes s first first text 0
 none_so_far nodes s first text empty =
@@ -103,7 +103,7 @@ one_more nodes s first u text starts le so line more count is on counts =
     let last : first + (u - first) ≡ u = omega (arith, le) in
     let next : (u - first) + 1 ≡ u + 1 - first = omega (arith, le) in
     let range : range_with_len first (u - first) ++ u ∷ [] ≡ range_with_len first (u + 1 - first) =
-        ap (λ (k : ℕ). range_with_len first (u - first) ++ k ∷ []) (sym last) ∙ sym (range_more first (u - first)) ∙ ap (range_with_len first) next in
+    ap (λ (k : ℕ). range_with_len first (u - first) ++ k ∷ []) (sym last) ∙ sym (range_more first (u - first)) ∙ ap (range_with_len first) next in
     record {
       text = on ∙ ap (λ (t : List ℕ). t ++ line) so.text ∙ ap (λ (t : List ℕ). flat_map (λ v. line_text (node_words nodes s v)) (range_with_len first (u - first)) ++ t) is
           ∙ block_more (λ v. line_text (node_words nodes s v)) first u le;
@@ -117,3 +117,12 @@ all_lines nodes s first last u lines end so = record {
   text = so.text ∙ ap (λ (k : ℕ). flat_map (λ v. line_text (node_words nodes s v)) (range_with_len first k)) end;
   starts = so.starts ∙ ap (λ (k : ℕ). sum_by (λ v. length (row_in s v)) (range_with_len first k)) end;
 }
+
+-- with the first line they are the text
+pub span_whole : (nodes : List Name) (s : Plan) (kind : Kind) (count first last : ℕ) (lines : SpanLines) → kind ≡ s.kind → count ≡ node_count s.topology → AreSpanLines nodes s first last lines
+    → line_text (span_words kind count lines.starts first last) ++ string_bytes lines.text ≡ span_text nodes s first last
+span_whole nodes s kind count first last lines same all are =
+    ap (λ (k : Kind). line_text (span_words k count lines.starts first last) ++ string_bytes lines.text) same
+    ∙ ap (λ (n : ℕ). line_text (span_words s.kind n lines.starts first last) ++ string_bytes lines.text) all
+    ∙ ap (λ (n : ℕ). line_text (span_words s.kind (node_count s.topology) n first last) ++ string_bytes lines.text) are.starts
+    ∙ ap (λ (t : List ℕ). line_text (span_words s.kind (node_count s.topology) (span_starts s first last) first last) ++ t) are.text

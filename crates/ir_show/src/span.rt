@@ -1,5 +1,5 @@
 //! The lines of some nodes of a plan's text. Where the rows of nodes can be made one by one, no other row is made.
-ghost use Rattle.std.specs.Prelude.{◌≡◌, ◌<◌, ◌++◌, IfOk, IfErr, OnOk, length, flat_map, string_bytes};
+ghost use Rattle.std.specs.Prelude.{◌≡◌, ◌<◌, ◌≤◌, ◌++◌, IfOk, IfErr, OnOk, length, flat_map, string_bytes};
 ghost use Rattle.ir_model.specs.{Graph.names, Topology.{node_count, ports_of}, Walk.IsConnected, Plan.{AreLabels, Plan}};
 ghost use Rattle.ir_plan.specs.{Building.{MayLabel, RefusesPlan, labelling_of}, Starts.IsOfShortestWays};
 ghost use Rattle.ir_trace.specs.Rows.{spaced};
@@ -99,6 +99,7 @@ fn lines_of(
 ) -> Result<SpanLines, AllocError>
     requires nodes { node_count plan.now.topology ≡ length graph.now }
     requires within { last < length graph.now }
+    requires order { first ≤ last }
     ensures { IfOk result (λ lines. AreSpanLines (names graph.now) plan.now first last lines) }
 {
     plan.invariant();
@@ -127,6 +128,7 @@ fn lines_alone(
     requires connected { IsConnected topology.now }
     requires nodes { node_count topology.now ≡ length graph.now }
     requires within { span.1 < length graph.now }
+    requires order { span.0 ≤ span.1 }
     ensures { IfOk result (λ lines. (plan : Plan) → IsPlanOver topology.now kind numbering.now plan
         → AreSpanLines (names graph.now) plan span.0 span.1 lines) }
 {
@@ -168,7 +170,8 @@ fn text_of_lines(
 
 /// The text of some nodes of a plan, from the first end of a span to the second: `plan KIND N L FIRST LAST`, where L is
 /// the number of the starts of these nodes, and their lines of the plan's text. Conditions: the plan is over the graph's
-/// network, and the second end is a node of it. It is refused for memory alone. Takes O(c + s), for c nodes and s starts.
+/// network, and the ends are nodes of it, the second not before the first. It is refused for memory alone. Takes O(c + s),
+/// for c nodes and s starts.
 pub fn span_text(
     alloc: Global,
     graph: &Graph,
@@ -177,6 +180,7 @@ pub fn span_text(
 ) -> Result<String, AllocError>
     requires nodes { node_count plan.now.topology ≡ length graph.now }
     requires within { span.1 < length graph.now }
+    requires order { span.0 ≤ span.1 }
     ensures { IfOk result (λ text. string_bytes text ≡ span_text (names graph.now) plan.now span.0 span.1) }
 {
     let (first, last) = (span.0 as usize, span.1 as usize);
@@ -186,7 +190,8 @@ pub fn span_text(
 
 /// The same text, of the plan of a kind over a topology by these labels. That plan is not built: the rows of these nodes
 /// alone are made, each by a search from its node. Conditions: the kind is one of shortest ways, the topology is the
-/// graph's network, the second end is a node of it if it has any, and no tour is sought (`needs_no_tour`).
+/// graph's network, the ends are nodes of it if it has any, the second not before the first, and no tour is sought
+/// (`needs_no_tour`).
 ///
 /// Refused as the plan is (`Plan::build_by`). Takes for each node what `row_of_node` takes, and O(n + m) memory beside
 /// the text, for n nodes of the network and m links.
@@ -201,6 +206,7 @@ pub fn span_text_alone(
     requires kind { IsOfShortestWays kind }
     requires nodes { node_count topology.now ≡ length graph.now }
     requires within { 0 < length graph.now → span.1 < length graph.now }
+    requires order { span.0 ≤ span.1 }
     requires may { MayLabel topology.now kind (labelling_of labels) }
     requires alone { NeedsNoTour (node_count topology.now) (labelling_of labels) }
     ensures text { IfOk result (λ text. IsSpanOfPlan (names graph.now) topology.now kind (labelling_of labels)

@@ -8,8 +8,11 @@ use Rattle.ir_show.proofs.Plans.{plan_some}
 use Rattle.ir_show.proofs.Spans.{all_lines, alone_few, alone_ports, alone_starts, alone_words, none_so_far, one_more}
 use Rattle.ir_show.proofs.span.lines_alone.Goals as goal
 
-pub loop-u-init-clause-so : goal.loop-u-init-clause-so
-loop-u-init-clause-so c = λ plan is. none_so_far (names c.args.graph.now) plan c.args.span.0 _ c.new-text.ensures.bytes
+pub loop-u-init : goal.loop-u-init
+loop-u-init c = record {
+  so = λ plan is. none_so_far (names c.args.graph.now) plan c.args.span.0 _ c.new-text.ensures.bytes;
+  few = omega arith;
+}
 
 pub push_line-requires-clause-ports : goal.push_line-requires-clause-ports
 push_line-requires-clause-ports c =
@@ -32,30 +35,27 @@ overflow_add-starts c =
     let so_far = c.loop-u.invariant.few in
     omega (arith, few, least, so_far, c.requires.nodes, c.requires.within)
 
-pub loop-u-preserved-clause-so : goal.loop-u-preserved-clause-so
-loop-u-preserved-clause-so c = λ plan is.
+pub loop-u-preserved : goal.loop-u-preserved
+loop-u-preserved c =
     let net = c.args.topology.now in
     let numbers = c.args.numbering.now in
     let nodes = names c.args.graph.now in
     let u = c.loop-u.u in
     let row = c.in_ok-row.row in
     let u_in : u < node_count net = omega (arith, c.requires.nodes, c.requires.within) in
-    one_more nodes plan c.args.span.0 u _ _ (omega arith) (c.loop-u.invariant.so plan is)
-    (line_text (row_words nodes net u c.label_of-label.result row)) _ c.len.result
-    (ap line_text (alone_words net c.args.kind c.requires.kind numbers plan is u u_in row c.in_ok-row.ensures nodes c.label_of-label.result c.label_of-label.ensures)) c.in_ok-push_line.ensures
-    (c.len.ensures.len ∙ alone_starts net c.args.kind c.requires.kind numbers plan is u u_in row c.in_ok-row.ensures)
-
-pub loop-u-preserved-clause-few : goal.loop-u-preserved-clause-few
-loop-u-preserved-clause-few c =
-    let net = c.args.topology.now in
-    let numbers = c.args.numbering.now in
-    let u = c.loop-u.u in
-    let u_in : u < node_count net = omega (arith, c.requires.nodes, c.requires.within) in
-    let plan = plan_some net c.invariant.ensures.topology c.requires.connected numbers c.requires.labels c.args.kind c.requires.kind (omega (arith, u_in)) in
-    let few = alone_few net c.args.kind c.requires.kind numbers plan.0 plan.1 u u_in c.in_ok-row.row c.in_ok-row.ensures in
+    let made = plan_some net c.invariant.ensures.topology c.requires.connected numbers c.requires.labels c.args.kind c.requires.kind (omega (arith, u_in)) in
+    let few = alone_few net c.args.kind c.requires.kind numbers made.0 made.1 u u_in row c.in_ok-row.ensures in
     let least = c.invariant.ensures.topology.few_nodes in
     let so_far = c.loop-u.invariant.few in
-    omega (arith, few, least, so_far, c.len.ensures.len)
+    record {
+      so = λ plan is. one_more nodes plan c.args.span.0 u _ _ (omega arith) (c.loop-u.invariant.so plan is)
+          (line_text (row_words nodes net u c.label_of-label.result row)) _ c.len-starts.result
+          (ap line_text (alone_words net c.args.kind c.requires.kind numbers plan is u u_in row c.in_ok-row.ensures nodes c.label_of-label.result c.label_of-label.ensures)) c.in_ok-push_line.ensures
+          (c.len-starts.ensures.len ∙ alone_starts net c.args.kind c.requires.kind numbers plan is u u_in row c.in_ok-row.ensures);
+      few = omega (arith, few, least, so_far, c.len-starts.ensures.len);
+    }
 
 pub returns : goal.returns
-returns c = λ plan is. all_lines (names c.args.graph.now) plan c.args.span.0 c.args.span.1 c.loop-u.u _ (omega arith) (c.loop-u.invariant.so plan is)
+returns c = λ plan is.
+    let end : c.loop-u.u ≡ c.args.span.1 + 1 = omega (arith, c.requires.order) in
+    all_lines (names c.args.graph.now) plan c.args.span.0 c.args.span.1 c.loop-u.u _ (omega (arith, end)) (c.loop-u.invariant.so plan is)
