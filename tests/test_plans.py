@@ -1,6 +1,7 @@
 """Plans: of networks that are hard for searches, of large ones, by orders and tours, and as ranges."""
 from __future__ import annotations
 
+import json
 import os
 import random
 import subprocess
@@ -196,6 +197,57 @@ def test_lines() -> None:
     for words_ in (["table", "1", good], ["table", "1", "--node", "a", "--json", good], ["table", "1", "--node", "a", "--binary", "--json", good],
                    ["table", "1", "--node", "a", "--from", "a", good], ["table", "1", "--node", "a", good, good]):
         expect(f"not understood: xdp {words_}", run(["xdp", *words_]), b"", SOME, 2)
+
+
+def of_nodes(plan: bytes, first: int, last: int) -> bytes:
+    """The text of the nodes from one to another, by that of the plan."""
+    head, *lines = plan.decode().splitlines()
+    chosen = lines[first:last + 1]
+    starts = sum(len(line.split()) // 2 - 1 for line in chosen)
+    words_ = [*head.split()[:3], str(starts), str(first), str(last)]
+    return "".join(f"{line}\n" for line in (" ".join(words_), *chosen)).encode()
+
+
+def test_nodes() -> None:
+    """The lines of some nodes are those of `plan`, for each kind and numbering; shards make the whole; what is refused is said so."""
+    luck = random.Random(4)
+    nets = [("alone", "a\n"), ("two", "a b\n"), ("ring", circle(9))]
+    for turn in range(8):
+        nodes = luck.randint(2, 60)
+        edges = [(luck.randrange(v), v) for v in range(1, nodes)] + [(luck.randrange(nodes), luck.randrange(nodes)) for _ in range(luck.randint(0, 3 * nodes))]
+        nets.append((f"network {turn}", "".join(f"n{u} n{v}\n" for u, v in edges if u != v)))
+    for name, text in nets:
+        net = put("some/net", text)
+        for words_ in (["--kind", "shortest"], ["--kind", "compact"], ["--kind", "tree"], ["--kind", "landmark"], ["--numbering", "tour"],
+                       ["--kind", "compact", "--numbering", "tour"]):
+            plan = run(["plan", *words_, net])[0]
+            count_ = plan.count(b"\n") - 1
+            spans = [(0, 0), (0, count_ - 1), (count_ - 1, count_ - 1)]
+            spans += [tuple(sorted((luck.randrange(count_), luck.randrange(count_)))) for _ in range(3)]
+            for first, last in spans:
+                got = run(["plan", "--nodes", f"{first}-{last}", *words_, net])
+                expect(f"nodes {first}-{last} of {name}, {words_}", got, of_nodes(plan, first, last), b"", 0)
+            cuts = sorted({0, count_, *(luck.randint(0, count_) for _ in range(3))})
+            shards = [run(["plan", "--nodes", f"{one}-{other - 1}", *words_, net])[0].split(b"\n", 1)[1] for one, other in zip(cuts, cuts[1:])]
+            count(f"shards of {name}, {words_}", None if b"".join(shards) == plan.split(b"\n", 1)[1] else brief(b"".join(shards)))
+    order = put("some/order", "c\na\nb\n")
+    net = put("some/three", "a b\nb c\n")
+    plan = run(["plan", "--numbering", order, net])[0]
+    expect("nodes by an order", run(["plan", "--nodes", "1-2", "--numbering", order, net]), of_nodes(plan, 1, 2), b"", 0)
+    whole = json.loads(run(["plan", "--json", net])[0])
+    part = json.loads(run(["plan", "--json", "--nodes", "1-2", net])[0])
+    wanted = {**whole, "first": 1, "last": 2, "rows": whole["rows"][1:]}
+    wanted["intervals"] = sum(len(row["intervals"]) for row in wanted["rows"])
+    count("nodes as JSON", None if part == wanted else f"{part}")
+    for span in ("0-3", "3-3", "2-18446744073709551615"):
+        refused(f"nodes {span} of three", run(["plan", "--nodes", span, net]), "opening NoNode")
+        refused(f"nodes {span} of a tree of three", run(["plan", "--kind", "tree", "--nodes", span, net]), "opening NoNode")
+    refused("nodes of none", run(["plan", "--nodes", "0-0", put("some/none", "")]), "opening Empty")
+    refused("nodes of parts", run(["plan", "--nodes", "0-1", put("some/apart", "a b\nc d\n")]), "opening Disconnected")
+    for span in ("2-1", "1", "-", "1-", "-1", "a-b", "1-2-3", "1 - 2", "", "0-18446744073709551616"):
+        expect(f"not understood: nodes {span!r}", run(["plan", f"--nodes={span}", net]), b"", SOME, 2)
+    for words_ in (["plan", "--order", "--nodes", "0-1", net], ["ranges", "--nodes", "0-1", net], ["plan", net, "--nodes"]):
+        expect(f"not understood: {words_}", run(words_), b"", SOME, 2)
 
 
 def test_ranges() -> None:

@@ -23,6 +23,7 @@ from .options import Options
 from .orbits import Shell
 from .program import find as find_program
 from .relabelling import Relabeller
+from .sharding import plan_shards
 from .sweeping import FailureRow, Sweep, read_sweep, sweep
 from .texts import (
     Bits, Compactness, Compared, Comparison, Interval, NodePlan, NodePrefixes, Packet, Plan, Prefix, Prefixes, Refused, Run, Segment, Stats, Verdict,
@@ -40,7 +41,7 @@ __all__ = [
     "WalkStep", "WeightError", "Worst", "check", "check_ranges", "compare", "compile_many", "draw", "find_program", "live", "names_of",
     "plan", "prefixes", "ranges", "read_comparison", "read_plan", "read_prefixes", "read_ranges", "read_stats", "read_trace", "read_walk", "scaled",
     "simulate", "stats", "walk", "write_trace",
-    # what if: sweeps, changes between plans, networks in time
+    # what if: sweeps, changes between plans, plans in parts, networks in time
     "FailureError", "FailureRow", "MissingPackageError", "NodeDiff", "PlanDiff", "Relabeller", "ResultsError", "Shell", "Sweep",
-    "SweepError", "Timeline", "diff", "patched", "read_sweep", "sweep",
+    "SweepError", "Timeline", "diff", "patched", "plan_shards", "read_sweep", "sweep",
 ]

@@ -19,6 +19,7 @@ use Rattle.ir_script.specs.Order.{order_fault, IsOrder}
 use Rattle.ir_script.specs.declared.order_fault.OrderFaultKind.{OrderFaultKind}
 use Rattle.ir_cli.specs.declared.words.Words.{Words}
 use Rattle.ir_cli.specs.declared.words.Second.{Second}
+use Rattle.ir_cli.specs.declared.words.Span.{Span}
 use Rattle.ir_cli.specs.Kinds.{detour_of, kind_of}
 use Rattle.ir_cli.specs.Answer.{Answer, Ran, Found, Refused, NoThread}
 use Rattle.ir_core.specs.declared.event.OpenError.{OpenError}
@@ -30,7 +31,7 @@ use Rattle.ir_cli.specs.declared.words.Sub.{Sub}
 use Rattle.ir_cli.specs.declared.words.Sub.TheVariants.{Plan as Planning, Walk, Stats, Compare, Draw, Prefixes, Ranges as Ranging, Xdp, Sim, Live, Check}
 use Rattle.ir_answer.specs.declared.look.Show.{Show}
 use Rattle.ir_answer.specs.declared.look.Show.TheVariants.{Between, Beside, Drawing, Circle}
-use Rattle.ir_answer.specs.Looks.{from_name, to_name, drawn_name, Says, AnswerShows, AnswersEnds, AnswersBothEnds, AnswersDrawn, AnswersBeside, AnswersFigures, AnswersShow, AnswersAsked, AnswersLook, AnswersLabels, AreTexts, LookAnswers, IsNode, IsLabelling, AreBeside, AreShown, IsNetwork, IsOneDrawn, IsShow, lines_shown, RefusesLabels, RefusesEnds, RefusesFigures, RefusesShow}
+use Rattle.ir_answer.specs.Looks.{from_name, to_name, drawn_name, Says, AnswerShows, AnswersEnds, AnswersBothEnds, AnswersDrawn, AnswersBeside, AnswersFigures, AnswersShow, AnswersAsked, AnswersLook, AnswersLabels, AreTexts, LookAnswers, IsNode, IsLabelling, AreBeside, AreShown, IsNetwork, IsOneDrawn, IsShow, lines_shown, RefusesLabels, RefusesEnds, RefusesFigures, RefusesShow, AnswersRows, AnswersWithin, AreRows, RefusesRows, are_nodes}
 use Rattle.ir_plan.specs.Building.{Labelling, FromRoot, ByList, IsPlanBy, RefusesPlan}
 use Rattle.ir_show.specs.Alone.{IsWalkOfPlan}
 use Rattle.ir_answer.specs.Plans.{AnswersText, IsTextOfPlan}
@@ -109,9 +110,16 @@ of_figures : (each : Bool) (words : Words) (g : Adjacency) (answers : Show → A
 of_figures true words g answers show answer same holds = subst (λ (s : Show). answers s answer) same holds
 of_figures false words g answers show answer is holds = of_beside (detour_of words.detour (length g)) words.second g answers show answer is holds
 
+of_rows : (order_alone : Bool) (span : Option Span) (g : Adjacency) (answers : Show → Answer → Type 0) (show : Show) (answer : Answer)
+    → AreRows order_alone span g show → answers show answer → AnswersRows order_alone span g answers answer
+of_rows true span g answers show answer same holds = subst (λ (s : Show). answers s answer) same holds
+of_rows false None g answers show answer same holds = subst (λ (s : Show). answers s answer) same holds
+of_rows false (Some span) g answers show answer (are, same) holds =
+    subst (λ (b : Bool). AnswersWithin b span g answers answer) (sym are) (subst (λ (s : Show). answers s answer) same holds)
+
 of_show : (look : Sub) (words : Words) (g : Adjacency) (answers : Show → Answer → Type 0) (show : Show) (answer : Answer)
     → IsShow look words g show → answers show answer → AnswersAsked look words g answers answer
-of_show Planning words g answers show answer same holds = subst (λ (s : Show). answers s answer) same holds
+of_show Planning words g answers show answer is holds = of_rows words.order_alone words.nodes g answers show answer is holds
 of_show Walk words g answers show answer (a, b, first, second, same) holds =
     of_ends g (from_name words) (to_name words) (λ x y. answers (Between x y)) answer a b first second (subst (λ (s : Show). answers s answer) same holds)
 of_show Stats words g answers show answer is holds = of_figures words.each words g answers show answer is holds
@@ -146,9 +154,20 @@ refuses_figures : (each : Bool) (words : Words) (g : Adjacency) (answers : Show 
 refuses_figures true words g answers line refuses = absurd refuses
 refuses_figures false words g answers line refuses = refuses_beside (detour_of words.detour (length g)) words.second g answers line refuses
 
+refuses_within : (are : Bool) (span : Span) (g : Adjacency) (answers : Show → Answer → Type 0) (line : List ℕ)
+    → AnswersWithin are span g (λ show answer. ⊥) (Refused line) → AnswersWithin are span g answers (Refused line)
+refuses_within true span g answers line refuses = absurd refuses
+refuses_within false span g answers line refuses = refuses
+
+refuses_rows : (order_alone : Bool) (span : Option Span) (g : Adjacency) (answers : Show → Answer → Type 0) (line : List ℕ)
+    → RefusesRows order_alone span g line → AnswersRows order_alone span g answers (Refused line)
+refuses_rows true span g answers line refuses = absurd refuses
+refuses_rows false None g answers line refuses = absurd refuses
+refuses_rows false (Some span) g answers line refuses = refuses_within (are_nodes span g) span g answers line refuses
+
 refuses_show : (look : Sub) (words : Words) (g : Adjacency) (answers : Show → Answer → Type 0) (line : List ℕ)
     → RefusesShow look words g line → AnswersAsked look words g answers (Refused line)
-refuses_show Planning words g answers line refuses = absurd refuses
+refuses_show Planning words g answers line refuses = refuses_rows words.order_alone words.nodes g answers line refuses
 refuses_show Walk words g answers line refuses = refuses_ends g (from_name words) (to_name words) (λ x y. answers (Between x y)) line refuses
 refuses_show Stats words g answers line refuses = refuses_figures words.each words g answers line refuses
 refuses_show Draw words g answers line refuses = refuses_drawn (drawn_name words) words.svg (from_name words) (to_name words) g answers line refuses

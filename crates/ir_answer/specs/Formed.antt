@@ -1,5 +1,5 @@
 -- An answer in the form that the words ask for: what is printed stands as it is, or as its JSON.
-use Rattle.std.specs.Prelude.{◌≡◌, ℕ, ◌==◌, if◌then◌else◌, Bool, true, false, List, Option, None, Some, Result, Ok, Err}
+use Rattle.std.specs.Prelude.{◌≡◌, ℕ, ◌==◌, if◌then◌else◌, is_some, Bool, true, false, List, Option, None, Some, Result, Ok, Err}
 use Rattle.std.specs.declared.alloc.AllocError.{AllocError}
 use Rattle.ir_model.specs.Text.{lines}
 use Rattle.ir_json.specs.declared.shape.Shape.{Shape}
@@ -18,9 +18,13 @@ use Rattle.ir_cli.specs.Notices.{told_text}
 abbrev pub trace_shape : Words → Shape
 trace_shape words = if words.restamps == 0 then shapes.Trace else shapes.Restamps
 
+-- the shape of what `plan` prints
+abbrev pub plan_shape : Words → Shape
+plan_shape words = if words.order_alone then shapes.Order else if is_some words.nodes then shapes.Nodes else shapes.Plan
+
 -- the shape of what a subcommand prints; a drawing has none, and neither have lines
 abbrev pub shape_of : Sub → Words → Option Shape
-shape_of Plan words = Some (if words.order_alone then shapes.Order else shapes.Plan)
+shape_of Plan words = Some (plan_shape words)
 shape_of Walk words = Some shapes.Walk
 shape_of Stats words = Some (if words.each then shapes.Failures else shapes.Stats)
 shape_of Compare words = Some shapes.Compare

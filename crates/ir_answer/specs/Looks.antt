@@ -1,12 +1,13 @@
--- What a topology comes to as a text that shows its plan: its rows, the order of its labels, a walk, its figures, a
--- drawing, the circle of its labels, its forwarding tables, its ranges of labels, or the lines of a node's row, which may also
--- be bytes.
-use Rattle.std.specs.Prelude.{◌≡◌, ◌<◌, ℕ, length, Bool, true, false, IfSome, List, [], ◌∷◌, Option, None, Some, if◌then◌else◌, string_bytes}
+-- What a topology comes to as a text that shows its plan: its rows, those of some nodes, the order of its labels, a walk,
+-- its figures, those without each of its links, a drawing, the circle of its labels, its forwarding tables, its ranges of
+-- labels, or the lines of a node's row, which may also be bytes.
+use Rattle.std.specs.Prelude.{◌≡◌, ◌<◌, ℕ, length, Bool, true, false, IfSome, List, [], ◌∷◌, Option, None, Some, if◌then◌else◌, string_bytes, nat_le, nat_lt, ◌&&◌}
 use Rattle.std.specs.Option.{option_map}
 use Rattle.std.specs.Borrow.{Bor}
 use Rattle.ir_model.specs.Graph.{Name, Adjacency, names}
 use Rattle.ir_model.specs.Text.{lines}
 use Rattle.ir_show.specs.PlanText.{plan_text}
+use Rattle.ir_show.specs.SpanText.{span_text}
 use Rattle.ir_show.specs.WalkText.{IsWalkOf}
 use Rattle.ir_figures.specs.FiguresText.{AreFiguresOf, AreFiguresBeside}
 use Rattle.ir_figures.specs.Failures.{AreLinkFailures}
@@ -19,6 +20,7 @@ use Rattle.ir_exports.specs.RangesText.{ranges_text}
 use Rattle.ir_exports.specs.LinesText.{AreLinesBytes, IsLinesText}
 use Rattle.ir_cli.specs.declared.words.Words.{Words}
 use Rattle.ir_cli.specs.declared.words.Second.{Second}
+use Rattle.ir_cli.specs.declared.words.Span.{Span}
 use Rattle.ir_cli.specs.declared.words.Sub.{Sub}
 use Rattle.ir_cli.specs.declared.words.Sub.TheVariants.{Plan as Planning, Walk, Stats, Compare, Draw, Prefixes, Ranges as Ranging, Xdp, Sim, Live, Check}
 use Rattle.ir_model.specs.declared.Detour.{Detour}
@@ -27,10 +29,11 @@ use Rattle.ir_cli.specs.Kinds.{detour_of, kind_of}
 use Rattle.ir_plan.specs.declared.tour.LabelOrder.{LabelOrder}
 use Rattle.ir_plan.specs.declared.tour.LabelOrder.TheVariants.{DepthFirst}
 use Rattle.ir_answer.specs.declared.look.Show.{Show}
-use Rattle.ir_answer.specs.declared.look.Show.TheVariants.{Rows, Between, Figures, Beside, Each, Drawing, Circle, Tables, Ranges, Lines, Bytes, Order}
+use Rattle.ir_answer.specs.declared.look.Show.TheVariants.{Rows, Nodes, Between, Figures, Beside, Each, Drawing, Circle, Tables, Ranges, Lines, Bytes, Order}
 use Rattle.ir_script.specs.Order.{IsOrder}
 use Rattle.ir_cli.specs.Answer.{Answer, Ran, Found, Refused, NoThread}
-use Rattle.ir_cli.specs.Openings.{root_name, root_in, kind_asked, label_order, AnswersTopology, AnswersRoot, AnswersOrder}
+use Rattle.ir_cli.specs.Lines.{opening_line}
+use Rattle.ir_cli.specs.Openings.{no_root, root_name, root_in, kind_asked, label_order, AnswersTopology, AnswersRoot, AnswersOrder}
 use Rattle.ir_cli.specs.Words.{has_order}
 use Rattle.ir_model.specs.Plan.{Plan}
 use Rattle.ir_plan.specs.Building.{Labelling, FromRoot, ByList, IsPlanBy}
@@ -92,6 +95,7 @@ circle_text is_svg nodes plan u = if is_svg then circle_svg nodes plan u else ci
 -- what a text of a plan says, by what is shown
 abbrev pub Says : Show → List Name → Plan → List ℕ → Type 0
 Says Rows nodes plan text = text ≡ plan_text nodes plan
+Says (Nodes first last) nodes plan text = text ≡ span_text nodes plan first last
 Says (Between a b) nodes plan text = IsWalkOf nodes plan a b text
 Says Figures nodes plan text = AreFiguresOf nodes plan text
 Says (Beside kind root) nodes plan text = IsFiguresBeside kind root nodes plan text
@@ -114,6 +118,7 @@ AnswerShows show nodes plan NoThread = ⊥
 -- the ends of what is shown, its node, or its second root, if it has any, are among so many nodes
 abbrev pub AreAmong : ℕ → Show → Type 0
 AreAmong n Rows = Unit {0}
+AreAmong n (Nodes first last) = last < n
 AreAmong n (Between a b) = (a < n) × (b < n)
 AreAmong n Figures = Unit {0}
 AreAmong n (Beside kind root) = root < n
@@ -136,9 +141,20 @@ IsText show = Unit {0}
 abbrev pub AnswersShow : Kind → Adjacency → Labelling → Show → Answer → Type 0
 AnswersShow kind g labels show = AnswersText g kind labels (Says show (names g))
 
--- what `plan` shows: the rows, or the order of the labels
-abbrev pub rows_or_order : Words → Show
-rows_or_order words = if words.order_alone then Order else Rows
+-- the nodes from the first to the last are nodes of the graph
+abbrev pub are_nodes : Span → Adjacency → Bool
+are_nodes span g = nat_le span.first span.last && nat_lt span.last (length g)
+
+-- The answer to a graph where rows of nodes are asked for: the refusal of nodes that are none, or else an answer to them.
+abbrev pub AnswersWithin : Bool → Span → Adjacency → (Show → Answer → Type 0) → Answer → Type 0
+AnswersWithin true span g answers answer = answers (Nodes span.first span.last) answer
+AnswersWithin false span g answers answer = answer ≡ Refused (opening_line (no_root g))
+
+-- the same where the order of the labels is asked for, or all rows are
+abbrev pub AnswersRows : Bool → Option Span → Adjacency → (Show → Answer → Type 0) → Answer → Type 0
+AnswersRows true span g answers = answers Order
+AnswersRows false None g answers = answers Rows
+AnswersRows false (Some span) g answers = AnswersWithin (are_nodes span g) span g answers
 
 -- what `xdp` shows: the lines of a node's row, as text or as bytes
 abbrev pub lines_shown : Words → ℕ → Show
@@ -155,7 +171,7 @@ ShowsPlan sub = Unit {0}
 -- The answer to a graph, by what is asked for: the refusal of an end or a second root that is no node, or else an answer to
 -- what is to be shown. Of the subcommands that show no plan there is none.
 abbrev pub AnswersAsked : Sub → Words → Adjacency → (Show → Answer → Type 0) → Answer → Type 0
-AnswersAsked Planning words g answers = answers (rows_or_order words)
+AnswersAsked Planning words g answers = AnswersRows words.order_alone words.nodes g answers
 AnswersAsked Walk words g answers = AnswersEnds g (from_name words) (to_name words) (λ a b. answers (Between a b))
 AnswersAsked Stats words g answers = AnswersFigures words.each words g answers
 AnswersAsked Draw words g answers = AnswersDrawn (drawn_name words) words.svg (from_name words) (to_name words) g answers
@@ -206,6 +222,12 @@ abbrev pub IsLabelling : Words → Option (List ℕ) → Adjacency → Labelling
 IsLabelling words None g labels = (root : ℕ) × IsNode g (root_name words) root × (labels ≡ FromRoot (label_order words.numbering) root)
 IsLabelling words (Some order) g labels = (places : List ℕ) × IsOrder (names g) (lines order) places × (labels ≡ ByList places)
 
+-- the rows that the words ask for, or the order of the labels
+abbrev pub AreRows : Bool → Option Span → Adjacency → Show → Type 0
+AreRows true span g show = show ≡ Order
+AreRows false None g show = show ≡ Rows
+AreRows false (Some span) g show = (are_nodes span g ≡ true) × (show ≡ Nodes span.first span.last)
+
 -- the figures, beside those of a second plan if there is one
 abbrev pub AreBeside : Detour → Option Second → Adjacency → Show → Type 0
 AreBeside detour None g show = show ≡ Figures
@@ -234,7 +256,7 @@ IsDrawn words g show = IsOneDrawn (drawn_name words) words.svg (from_name words)
 
 -- what the words ask to be shown
 abbrev pub IsShow : Sub → Words → Adjacency → Show → Type 0
-IsShow Planning words g show = show ≡ rows_or_order words
+IsShow Planning words g show = AreRows words.order_alone words.nodes g show
 IsShow Walk words g show = (a b : ℕ) × IsNode g (from_name words) a × IsNode g (to_name words) b × (show ≡ Between a b)
 IsShow Stats words g show = AreShown words.each words g show
 IsShow Draw words g show = IsDrawn words g show
@@ -246,9 +268,12 @@ IsShow Sim words g show = ⊥
 IsShow Live words g show = ⊥
 IsShow Check words g show = ⊥
 
--- the line of a refusal that comes before any plan: of the root or the order, of an end, of a second root, of a node
+-- the line of a refusal that comes before any plan: of the root or the order, of nodes, of an end, of a second root, of a node
 abbrev pub RefusesLabels : Words → Option (List ℕ) → Adjacency → List ℕ → Type 0
 RefusesLabels words order g line = AnswersLabels words order g (λ labels answer. ⊥) (Refused line)
+
+abbrev pub RefusesRows : Bool → Option Span → Adjacency → List ℕ → Type 0
+RefusesRows order_alone span g line = AnswersRows order_alone span g (λ show answer. ⊥) (Refused line)
 
 abbrev pub RefusesEnds : Adjacency → Option Name → Option Name → List ℕ → Type 0
 RefusesEnds g from to line = AnswersEnds g from to (λ a b answer. ⊥) (Refused line)

@@ -18,6 +18,7 @@ fn shape_of(sub: Sub, words: &Words) -> Option<Shape>
 {
     match sub {
         Sub::Plan if words.order_alone => Some(Shape::Order),
+        Sub::Plan if words.nodes.is_some() => Some(Shape::Nodes),
         Sub::Plan => Some(Shape::Plan),
         Sub::Walk => Some(Shape::Walk),
         Sub::Stats if words.each => Some(Shape::Failures),

@@ -2,7 +2,7 @@
 ghost use Rattle.std.specs.Prelude.{◌≡◌, ◌≢◌, ◌<◌, ℕ, true, IfOk, IfErr, IfSome, IsSome, length, string_bytes};
 ghost use Rattle.ir_model.specs.{Graph.names, Topology.node_count};
 ghost use Rattle.ir_answer.specs.Asked.{look_sources};
-ghost use Rattle.ir_answer.specs.Looks.{from_name, to_name, circle_text, AnswersShow, AreAmong, AreTexts, Says, AnswerShows, order_in, IsNode, IsLabelling, AreShown, IsDrawn, IsShow, IsText, lines_shown, order_again, RefusesLabels, RefusesEnds, RefusesFigures, RefusesDrawn, RefusesShow, ShowsPlan, LookAnswers, IsFiguresBeside};
+ghost use Rattle.ir_answer.specs.Looks.{from_name, to_name, circle_text, AnswersShow, AreAmong, AreTexts, Says, AnswerShows, order_in, IsNode, IsLabelling, AreShown, IsDrawn, IsShow, IsText, lines_shown, order_again, RefusesLabels, RefusesEnds, RefusesFigures, RefusesDrawn, RefusesShow, ShowsPlan, LookAnswers, IsFiguresBeside, AreRows, RefusesRows};
 ghost use Rattle.ir_answer.specs.Stops.{StopsAs, Gives};
 ghost use Rattle.ir_cli.specs.Answer.{Refused};
 ghost use Rattle.ir_model.specs.OfGraph.{topology_of_graph};
@@ -12,7 +12,7 @@ ghost use Rattle.ir_answer.specs.Plans.{AnswersText};
 ghost use Rattle.ir_cli.specs.{Kinds.detour_of, Openings.kind_asked, Reading.texts_of, Words.{FitsItsKind, takes_list}};
 
 use crate::asking::{AnswerStop, opening_stop, read_graph, read_node};
-use ir_cli::{Notice, RunReply, Sub, Words, kind_asked, label_order};
+use ir_cli::{Notice, RunReply, Sub, Words, kind_asked, label_order, no_root};
 use ir_core::OpenError;
 use ir_exports::{
     circle_dot, circle_svg, lines_bytes, lines_text, order_text, prefixes_text_by, ranges_text,
@@ -23,7 +23,9 @@ use ir_model::Kind;
 use ir_plan::{Crew, LabelOrder, Labels, Plan, PlanError, is_of_shortest_ways};
 use ir_script::{OrderFaultKind, read_order};
 use ir_show::plan_text::PlanText;
-use ir_show::{draw_text, needs_no_tour, walk_text, walk_text_alone};
+use ir_show::{
+    draw_text, needs_no_tour, span_text, span_text_alone, walk_text, walk_text_alone,
+};
 use ir_tables::Topology;
 use std::alloc::{AllocError, Global};
 
@@ -31,6 +33,8 @@ use std::alloc::{AllocError, Global};
 #[derive(Clone, Copy)]
 pub enum Show {
     Rows,
+    /// The rows of the nodes from one to another.
+    Nodes(u16, u16),
     /// The walk from a node to another.
     Between(u16, u16),
     Figures,
@@ -133,6 +137,7 @@ fn text_of(
 {
     match show {
         Show::Rows | Show::Bytes(_, _) => unreachable!(),
+        Show::Nodes(first, last) => span_text(alloc, graph, plan, (first, last)),
         Show::Between(from, to) => walk_text(alloc, graph, plan, from, to),
         Show::Figures => figures_text(alloc, graph, plan),
         Show::Beside(kind, root) => beside_text(crew, alloc, graph, plan, (kind, root)),
@@ -284,6 +289,24 @@ fn read_drawing(words: &Words, graph: &Graph) -> Result<Show, AnswerStop>
     Ok(Show::Drawing(Some(ends)))
 }
 
+/// The order of the labels, the rows of the nodes that the words ask for, or all rows.
+fn read_rows(words: &Words, graph: &Graph) -> Result<Show, AnswerStop>
+    ensures show { IfOk result (λ show. AreRows words.now.order_alone words.now.nodes graph.now show) }
+    ensures among { IfOk result (λ show. 0 < length graph.now → AreAmong (length graph.now) show) }
+    ensures stop { IfErr result (λ s. StopsAs s (RefusesRows words.now.order_alone words.now.nodes graph.now)) }
+{
+    if words.order_alone {
+        return Ok(Show::Order);
+    }
+    let Some(span) = words.nodes else {
+        return Ok(Show::Rows);
+    };
+    if span.first > span.last || span.last >= graph.number_of_nodes() {
+        return Err(AnswerStop::Refused(Notice::Opening(no_root(graph))));
+    }
+    Ok(Show::Nodes(span.first as u16, span.last as u16))
+}
+
 /// The lines of a node's row, as text or as bytes.
 fn lines_shown(words: &Words, node: u16) -> Show
     ensures { result ≡ lines_shown words.now node }
@@ -304,8 +327,7 @@ fn read_show(sub: Sub, words: &Words, graph: &Graph) -> Result<Show, AnswerStop>
 {
     match sub {
         Sub::Compare | Sub::Sim | Sub::Live | Sub::Check => unreachable!(),
-        Sub::Plan if words.order_alone => Ok(Show::Order),
-        Sub::Plan => Ok(Show::Rows),
+        Sub::Plan => read_rows(words, graph),
         Sub::Stats => read_figures(words, graph),
         Sub::Prefixes => Ok(Show::Tables(words.disjoint)),
         Sub::Ranges => Ok(Show::Ranges),
@@ -361,6 +383,45 @@ fn show_walk(
     }
 }
 
+/// The nodes whose rows are shown, where their plan need not be built: as of a walk.
+fn span_alone(show: Show, kind: Kind, nodes: usize, labels: &Labels) -> Option<(u16, u16)>
+    ensures shown { IfSome result (λ span. show ≡ Show.Nodes span.0 span.1) }
+    ensures kind { IsSome result → IsOfShortestWays kind }
+    ensures alone { IsSome result → NeedsNoTour nodes (labelling_of labels.now) }
+{
+    let Show::Nodes(first, last) = show else {
+        return None;
+    };
+    if !is_of_shortest_ways(kind) || !needs_no_tour(nodes, labels) {
+        return None;
+    }
+    Some((first, last))
+}
+
+/// The answer that shows the rows of some nodes of a plan, or tells what refuses that plan, which is not built.
+fn show_nodes(
+    alloc: Global,
+    graph: &Graph,
+    kind: Kind,
+    labels: Labels,
+    span: (u16, u16),
+) -> Result<RunReply, AnswerStop>
+    requires kind { IsOfShortestWays kind }
+    requires span { 0 < length graph.now → span.1 < length graph.now }
+    requires labels { MayLabel (topology_of_graph graph.now) kind (labelling_of labels) }
+    requires alone { NeedsNoTour (length graph.now) (labelling_of labels) }
+    ensures { Gives (AnswersText graph.now kind (labelling_of labels)
+        (Says (Show.Nodes span.0 span.1) (names graph.now))) result }
+{
+    let Ok(topology) = Topology::of(alloc, graph) else {
+        return Err(AnswerStop::NoMemory);
+    };
+    match span_text_alone(alloc, graph, &topology, kind, labels, span) {
+        Ok(text) => Ok(RunReply::Ran(text, Vec::new(alloc))),
+        Err(error) => Err(opening_stop(OpenError::from(error))),
+    }
+}
+
 /// The plan over the network of a graph by these labels, of this kind, or what refuses it.
 fn plan_of(
     crew: &impl Crew,
@@ -400,8 +461,8 @@ fn show_rows(
     }
 }
 
-/// The answer that shows something other than the rows of a plan, or tells what refuses it. A walk is told without its
-/// plan where that need not be built.
+/// The answer that shows something other than all rows of a plan, or tells what refuses it. A walk and the rows of some
+/// nodes are told without their plan where that need not be built.
 fn show_text(
     crew: &impl Crew,
     alloc: Global,
@@ -417,6 +478,9 @@ fn show_text(
 {
     if let Some(ends) = ends_alone(show, kind, graph.number_of_nodes(), &labels) {
         return show_walk(alloc, graph, kind, labels, ends);
+    }
+    if let Some(span) = span_alone(show, kind, graph.number_of_nodes(), &labels) {
+        return show_nodes(alloc, graph, kind, labels, span);
     }
     match plan_of(crew, alloc, kind, graph, labels) {
         Ok(plan) => {

@@ -15,3 +15,4 @@ pub mod LongestRuns
 pub mod ChosenPorts
 pub mod PlanRows
 pub mod Walks
+pub mod Spans

@@ -10,7 +10,9 @@ pub mod Drawing
 pub mod Blocks
 pub mod Alone
 pub mod Plans
+pub mod SpanText
 -- what bodies use
 pub mod Before
 pub mod Held
 pub mod Stops
+pub mod SpanLines

@@ -27,7 +27,7 @@ pub fn needs_no_tour(nodes: usize, labels: &Labels) -> bool
 }
 
 /// The numbers of the nodes of a connected topology by these labels. Refused as the plan is.
-fn numbers_by(
+pub(crate) fn numbers_by(
     alloc: Global,
     topology: &Topology,
     kind: Kind,

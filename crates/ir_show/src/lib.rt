@@ -1,5 +1,5 @@
-//! The texts that show a plan: its rows, a walk of it, its figures, and a drawing; and a walk of a
-//! plan that is not built.
+//! The texts that show a plan: its rows, a walk of it, its figures, and a drawing; and a walk and
+//! some rows of a plan that is not built.
 #![tactic(auto)]
 
 use std::alloc::AllocError;
@@ -12,6 +12,7 @@ pub mod interval;
 mod laws;
 pub mod plan_text;
 pub mod quoted;
+mod span;
 mod stats;
 mod stops;
 mod walk;
@@ -26,6 +27,7 @@ pub use laws::{
     drawing_is_determined, escaped_text_is_read_again, plans_are_there, stats_text_is_determined,
     walk_text_is_determined,
 };
+pub use span::{span_text, span_text_alone};
 pub use stats::{greatest_row, stats_text};
 pub use walk::walk_text;
 pub use worst::{Pair, Weighed};
