@@ -165,7 +165,7 @@ fn steps_asked(
     let lines = asked.script.lines();
     let steps = asked.script.steps();
     match tell_run_by(crew, alloc, graph, topology, opening, lines, steps) {
-        Ok(run) => match told_texts(alloc, lines, run) {
+        Ok(played) => match told_texts(alloc, lines, played) {
             Ok((text, refused)) => Ok(RunReply::Ran(text, refused)),
             Err(_) => Err(AnswerStop::NoMemory),
         },

@@ -12,10 +12,10 @@ use Rattle.ir_answer.specs.Plays.{IsStepsRun, listing_in, refused_text}
 use Rattle.ir_answer.proofs.play.steps_asked.Goals as goal
 
 pub tell_run_by-requires-clause-opening : goal.tell_run_by-requires-clause-opening
-tell_run_by-requires-clause-opening g c = ap (λ (o : Opening). o.topology) c.in-Ok.ensures
+tell_run_by-requires-clause-opening g c = λ κs le. ap (λ (o : Opening). o.topology) c.in-Ok.ensures
 
 pub tell_run_by-requires-clause-lines : goal.tell_run_by-requires-clause-lines
-tell_run_by-requires-clause-lines g c = ap length c.lines-lines.ensures.lines ∙ c.lines-lines.ensures.numbered ∙ sym (ap length c.steps-steps.ensures.steps)
+tell_run_by-requires-clause-lines g c = λ κs le. ap length c.lines-lines.ensures.lines ∙ c.lines-lines.ensures.numbered ∙ sym (ap length c.steps-steps.ensures.steps)
 
 pub returns-in-Ok-told_texts : goal.returns-in-Ok-told_texts
 returns-in-Ok-told_texts g c =
@@ -23,7 +23,7 @@ returns-in-Ok-told_texts g c =
     let asked = c.args.asked.now in
     let graph = asked.graph in
     let script = listing_in asked.script in
-    let run = c.in-Ok-tell_run_by.run in
+    let run = c.in-Ok-tell_run_by.played in
     let world = run.world in
     let replies = run.replies.items in
     let text : List ℕ = string_bytes c.in-Ok-told_texts.text in
