@@ -1,7 +1,7 @@
 -- What a topology comes to as a text that shows its plan: its rows, those of some nodes, the order of its labels, a walk,
 -- its figures, those without each of its links, a drawing, the circle of its labels, its forwarding tables, its ranges of
 -- labels, or the lines of a node's row, which may also be bytes.
-use Rattle.std.specs.Prelude.{◌≡◌, ◌<◌, ℕ, length, Bool, true, false, IfSome, List, [], ◌∷◌, Option, None, Some, if◌then◌else◌, string_bytes, nat_le, nat_lt, ◌&&◌}
+use Rattle.std.specs.Prelude.{◌≡◌, ◌<◌, ◌≤◌, ℕ, length, Bool, true, false, IfSome, List, [], ◌∷◌, Option, None, Some, if◌then◌else◌, string_bytes, nat_le, nat_lt, ◌&&◌}
 use Rattle.std.specs.Option.{option_map}
 use Rattle.std.specs.Borrow.{Bor}
 use Rattle.ir_model.specs.Graph.{Name, Adjacency, names}
@@ -118,7 +118,7 @@ AnswerShows show nodes plan NoThread = ⊥
 -- the ends of what is shown, its node, or its second root, if it has any, are among so many nodes
 abbrev pub AreAmong : ℕ → Show → Type 0
 AreAmong n Rows = Unit {0}
-AreAmong n (Nodes first last) = last < n
+AreAmong n (Nodes first last) = (first ≤ last) × (last < n)
 AreAmong n (Between a b) = (a < n) × (b < n)
 AreAmong n Figures = Unit {0}
 AreAmong n (Beside kind root) = root < n

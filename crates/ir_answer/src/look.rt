@@ -1,5 +1,5 @@
 //! What is shown of a topology's plan, from the text of the topology.
-ghost use Rattle.std.specs.Prelude.{◌≡◌, ◌≢◌, ◌<◌, ℕ, true, IfOk, IfErr, IfSome, IsSome, length, string_bytes};
+ghost use Rattle.std.specs.Prelude.{◌≡◌, ◌≢◌, ◌<◌, ◌≤◌, ℕ, true, IfOk, IfErr, IfSome, IsSome, length, string_bytes};
 ghost use Rattle.ir_model.specs.{Graph.names, Topology.node_count};
 ghost use Rattle.ir_answer.specs.Asked.{look_sources};
 ghost use Rattle.ir_answer.specs.Looks.{from_name, to_name, circle_text, AnswersShow, AreAmong, AreTexts, Says, AnswerShows, order_in, IsNode, IsLabelling, AreShown, IsDrawn, IsShow, IsText, lines_shown, order_again, RefusesLabels, RefusesEnds, RefusesFigures, RefusesDrawn, RefusesShow, ShowsPlan, LookAnswers, IsFiguresBeside, AreRows, RefusesRows};
@@ -23,9 +23,7 @@ use ir_model::Kind;
 use ir_plan::{Crew, LabelOrder, Labels, Plan, PlanError, is_of_shortest_ways};
 use ir_script::{OrderFaultKind, read_order};
 use ir_show::plan_text::PlanText;
-use ir_show::{
-    draw_text, needs_no_tour, span_text, span_text_alone, walk_text, walk_text_alone,
-};
+use ir_show::{draw_text, needs_no_tour, span_text, span_text_alone, walk_text, walk_text_alone};
 use ir_tables::Topology;
 use std::alloc::{AllocError, Global};
 
@@ -407,7 +405,7 @@ fn show_nodes(
     span: (u16, u16),
 ) -> Result<RunReply, AnswerStop>
     requires kind { IsOfShortestWays kind }
-    requires span { 0 < length graph.now → span.1 < length graph.now }
+    requires ends { 0 < length graph.now → (span.0 ≤ span.1) × (span.1 < length graph.now) }
     requires labels { MayLabel (topology_of_graph graph.now) kind (labelling_of labels) }
     requires alone { NeedsNoTour (length graph.now) (labelling_of labels) }
     ensures { Gives (AnswersText graph.now kind (labelling_of labels)

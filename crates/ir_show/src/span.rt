@@ -205,8 +205,7 @@ pub fn span_text_alone(
 ) -> Result<String, PlanError>
     requires kind { IsOfShortestWays kind }
     requires nodes { node_count topology.now ≡ length graph.now }
-    requires within { 0 < length graph.now → span.1 < length graph.now }
-    requires order { span.0 ≤ span.1 }
+    requires ends { 0 < length graph.now → (span.0 ≤ span.1) × (span.1 < length graph.now) }
     requires may { MayLabel topology.now kind (labelling_of labels) }
     requires alone { NeedsNoTour (node_count topology.now) (labelling_of labels) }
     ensures text { IfOk result (λ text. IsSpanOfPlan (names graph.now) topology.now kind (labelling_of labels)

@@ -173,6 +173,8 @@ fn a_walk_prefixes_and_a_live_run(rt: HostRuntime) {
         "",
     );
     assert!(rt; prints(rt.alloc(), "walk --from a --to c -", "a b\nb c\n", walk));
+    let nodes = (0, "plan shortest 3 3 1 2\nb 1 0 a 2 c\nc 2 0 b\n", "");
+    assert!(rt; prints(rt.alloc(), "plan --nodes 1-2 -", "a b\nb c\n", nodes));
     let prefixes = (
         0,
         "prefixes shortest 4 2 8\na 0 3/2 d 0/0 b\nb 1 2/2 c 0/0 a\nd 3 2/1 c 0/0 a\nc 2 2/1 d 0/0 b\n",

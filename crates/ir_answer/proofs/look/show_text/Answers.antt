@@ -38,3 +38,13 @@ text_reply-requires-clause-ends g c κs within =
 
 pub returns-in-Err : goal.returns-in-Err
 returns-in-Err g c = c.in-Err.ensures.stop
+
+pub returns-in-Some-span_alone : goal.returns-in-Some-span_alone
+returns-in-Some-span_alone g c =
+    subst (λ (show : Show). Gives (AnswersShow c.args.kind c.args.graph.now (labelling_of c.args.labels) show) c.show_nodes.result) (sym c.in-Some-span_alone.ensures.shown) c.show_nodes.ensures
+
+pub show_nodes-requires-clause-ends : goal.show_nodes-requires-clause-ends
+show_nodes-requires-clause-ends g c some = subst (λ (show : Show). AreAmong (length c.args.graph.now) show) c.in-Some-span_alone.ensures.shown (c.requires.ends some)
+
+pub show_nodes-requires-clause-alone : goal.show_nodes-requires-clause-alone
+show_nodes-requires-clause-alone g c = subst (λ (nodes : ℕ). NeedsNoTour nodes (labelling_of c.args.labels)) c.number_of_nodes-2.ensures.len (c.in-Some-span_alone.ensures.alone refl)
