@@ -1,15 +1,14 @@
 -- The rows of a whole net.
-use Rattle.std.specs.Prelude.{◌≡◌, ℕ, zero, suc, ◌+◌, ◌<◌, ◌≤◌, Bool, true, false, ltb, cond, List, [], ◌∷◌, All, Option, Some, None, length, map, sum_by, slice_get, slice_index, slice_index_or}
-use Rattle.std.proofs.Common.{refl, arith, sym, ap, ◌∙◌, subst}
+use Rattle.std.specs.Prelude.{◌≡◌, ℕ, zero, suc, ◌+◌, ◌<◌, ◌≤◌, Bool, true, false, ltb, cond, List, [], ◌∷◌, All, Option, Some, None, length, sum_by, slice_get, slice_index, slice_index_or}
+use Rattle.std.proofs.Common.{refl, arith, sym, ap, ◌∙◌, subst, map-id}
 use Rattle.std.proofs.lemmas.Bool.{ltb-false}
-use Rattle.std.proofs.lemmas.Option.{none-some, slice_get-get_or, get_or_from_slice_get, slice_get_within}
-use Rattle.std.proofs.lemmas.List.{length-map}
+use Rattle.std.proofs.lemmas.Option.{none-some, same_Some, slice_get-get_or, get_or_from_slice_get, slice_get_within}
 use Rattle.ir_model.specs.Topology.{node_count}
 use Rattle.ir_links.specs.Ends.{Channel, Sender, Taker}
 use Rattle.ir_worker.specs.declared.node.Node.{Node}
 use Rattle.ir_worker.specs.declared.parcel.Place.{Place}
-use Rattle.ir_worker.specs.Account.{lines_out}
-use Rattle.ir_worker.specs.Wires.{In, Out}
+use Rattle.ir_worker.specs.Account.{lines_in}
+use Rattle.ir_worker.specs.Wires.{In}
 use Rattle.ir_control.specs.declared.leaving.EndRows.{EndRows}
 use Rattle.ir_control.specs.declared.net.Net.{Net}
 use Rattle.ir_control.specs.Pairs.{ArePeers, ArePaired, slot_line, line_at}
@@ -19,12 +18,10 @@ use Rattle.ir_control.specs.Reported.{AreAllThere}
 use Rattle.ir_control.specs.Rowed.{AllGet, AreEndRows, AreSlotsFrom}
 use Rattle.ir_control.specs.Slots.{slot_weight, hit, once, IsAt, AllAt, AllIn}
 use Rattle.ir_control.specs.Whole.{AreTakersOf}
-use Rattle.ir_control.specs.Wired.{AreEntries}
 use Rattle.ir_control.proofs.Rows.{offset_all, place_of}
-use Rattle.ir_control.proofs.Rowing.{slot_get}
 use Rattle.ir_control.proofs.Slotted.{counts_no_other, full_at}
 use Rattle.ir_control.proofs.Sums.{sum_of_none}
-use Rattle.ir_control.proofs.Wiring.{sum_nothing}
+use Rattle.ir_control.proofs.Wiring.{map_eq, sum_nothing}
 
 module _ {X : Type 0} (slots : List (Option X)) (none : (k : ℕ) → slice_index_or slots k None ≡ None) where
   pub none_weigh : (f : X → ℕ) → sum_by (slot_weight f) slots ≡ 0
@@ -86,32 +83,11 @@ module _ {P T : Type 0} where
     gone = λ k lt more. absurd (let within = are.within k lt in omega (arith, more, within, ins));
   }
 
-pub entries_paired : (n : ℕ) (entries : List ℕ) → AreEntries n entries → ArePeers entries
-entries_paired n entries are = record {
-  within = λ k lt. (let e = are.each k (let c = are.count in omega (arith, c, lt)) in omega (arith, e, lt));
-  back = λ k lt. (let e = are.each k (let c = are.count in omega (arith, c, lt)) in ap (slice_index entries) e ∙ e);
-}
-
-pub lines_there : (inboxes : List (Channel Place)) (outs : List Out) → lines_out outs ≡ inboxes → AllGet (λ k (slot : Option Out). slice_get inboxes k ≡ slot_line slot) (map (λ s. Some s) outs)
-lines_there inboxes outs e = λ k slot got.
-    (let s = slot_get (λ (s : Out). Some s) outs k slot got in
-    ap (λ ls. slice_get ls k) (sym e) ∙ there outs k s.0 s.1 ∙ ap slot_line s.2) where
-      there : (outs : List Out) (k : ℕ) (s : Out) → slice_get outs k ≡ Some s → slice_get (lines_out outs) k ≡ Some s.channel
-      there [] k s got = absurd (none-some s got)
-      there (x ∷ xs) zero s got = ap (λ (slot : Option Out). slot_line slot) got
-      there (x ∷ xs) (suc k) s got = there xs k s got
-
-pub inboxes_paired : (net : Net) (outs : List Out) (rows : EndRows) → lines_out outs ≡ net.inboxes.items → AreEndRows net (node_count net.topology) rows → ArePaired net.entries.items (map (λ s. Some s) outs) rows.inboxes.items
-inboxes_paired net outs rows lines are =
-    let n = net.inboxes_are.count in
-    let m = net.entries_are.count in
-    let len = ap length lines in
-    let a = length-map outs (λ (s : Out). s.channel) in
-    let b = length-map outs (λ (s : Out). Some s) in
-    let q = are.inbox_count in
-    paired_at net.entries.items net.inboxes.items (map (λ s. Some s) outs) rows.inboxes.items (entries_paired (node_count net.topology) net.entries.items net.entries_are) (omega (arith, n, m, len, a, b)) (omega (arith, q, m))
-    (lines_there net.inboxes.items outs lines)
-    (λ k t got. (let lt = slice_get_within rows.inboxes.items k t got in ap (slice_get net.inboxes.items) (net.entries_are.each k (omega (arith, lt, q))) ∙ are.inbox_lines k t got))
+-- the inboxes of all nodes stand in the order of the nodes
+pub inboxes_in_order : (net : Net) (rows : EndRows) → AreEndRows net (node_count net.topology) rows → lines_in rows.inboxes.items ≡ net.inboxes.items
+inboxes_in_order net rows are =
+    map_eq (λ (t : In). t.channel) (λ (l : Channel Place). l) rows.inboxes.items net.inboxes.items (are.inbox_count ∙ sym net.inboxes_are.count)
+    (λ p t l got there. same_Some t.channel l (sym (are.inbox_lines p t got) ∙ there)) ∙ map-id net.inboxes.items
 
 pub ways_paired : (net : Net) (rows : EndRows) → AreEndRows net (node_count net.topology) rows → ArePaired net.peers.items rows.senders.items rows.takers.items
 ways_paired net rows are =

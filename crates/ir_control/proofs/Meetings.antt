@@ -1,7 +1,7 @@
 -- Each taker meets its sender, once.
-use Rattle.std.specs.Prelude.{◌≡◌, ℕ, ◌+◌, ◌<◌, ◌≤◌, zero, suc, Bool, true, false, List, [], ◌∷◌, ◌++◌, Option, Some, None, sum_by, length, slice_index, slice_index_or, slice_set, eqb}
+use Rattle.std.specs.Prelude.{◌≡◌, ℕ, ◌+◌, ◌<◌, ◌≤◌, zero, suc, Bool, true, false, List, [], ◌∷◌, ◌++◌, Option, Some, None, sum_by, length, map, slice_index, slice_index_or, slice_set, eqb}
 use Rattle.std.proofs.Common.{get_or, refl, arith, ap, ◌∙◌, subst, sym, append_assoc}
-use Rattle.std.proofs.lemmas.List.{append-nil}
+use Rattle.std.proofs.lemmas.List.{append-nil, length-map, map-append, same_from_push}
 use Rattle.std.proofs.lemmas.Bool.{eqb-true, eqb-false}
 use Rattle.std.proofs.lemmas.List.{length-set, get_or-set_same, get_or-set_other, length_push, get_or_read}
 use Rattle.std.proofs.lemmas.List.Sums.{sum_by_push, sum_by-append, sum_by-set}
@@ -163,3 +163,52 @@ module _ {P T : Type 0} where
   pub left_push : (channels : List (Remains P T)) (r : Remains P T) → left_in (channels ++ r ∷ []) ≡ left_in channels ++ r.left
   left_push [] r = append-nil r.left
   left_push (c ∷ cs) r = ap (λ (l : List T). c.left ++ l) (left_push cs r) ∙ sym (append_assoc c.left (left_in cs) r.left)
+
+  -- The senders that are left are of the channels of the takers that are left, in order.
+  pub record IsMeeting (senders_0 : List (Sender P T)) (takers_0 : List (Taker P T)) (left_0 : List T)
+      (senders : List (Sender P T)) (takers : List (Taker P T)) (left : List T) : Type 0 where
+    pub lines : map (λ s. s.channel) senders ≡ map (λ t. t.channel) takers
+    pub account : (w : T → ℕ) → (sum_by (λ s. sum_by w s.sent) senders + sum_by w left) + weight_taken w takers_0
+        ≡ (sum_by (λ s. sum_by w s.sent) senders_0 + sum_by w left_0) + weight_taken w takers
+
+  module _ (senders senders_1 : List (Sender P T)) (takers takers_1 : List (Taker P T)) (s : Sender P T) (t : Taker P T)
+      (lines : map (λ (s : Sender P T). s.channel) senders ≡ map (λ (t : Taker P T). t.channel) takers)
+      (sender : senders ≡ senders_1 ++ s ∷ []) (taker : takers ≡ takers_1 ++ t ∷ []) where
+    lasts : (map (λ (s : Sender P T). s.channel) senders_1 ≡ map (λ (t : Taker P T). t.channel) takers_1) × (s.channel ≡ t.channel)
+    lasts =
+        same_from_push (map (λ (s : Sender P T). s.channel) senders_1) (map (λ (t : Taker P T). t.channel) takers_1) s.channel t.channel
+        (sym (map-append (λ (s : Sender P T). s.channel) senders_1 (s ∷ [])) ∙ ap (map (λ (s : Sender P T). s.channel)) (sym sender) ∙ lines
+        ∙ ap (map (λ (t : Taker P T). t.channel)) taker ∙ map-append (λ (t : Taker P T). t.channel) takers_1 (t ∷ []))
+
+    pub last_channel : s.channel ≡ t.channel
+    last_channel = lasts.1
+
+    pub met_one : (senders_0 : List (Sender P T)) (takers_0 : List (Taker P T)) (left_0 left more left_1 : List T) → IsMeeting senders_0 takers_0 left_0 senders takers left
+        → s.sent ≡ t.taken ++ more → left_1 ≡ left ++ more → IsMeeting senders_0 takers_0 left_0 senders_1 takers_1 left_1
+    met_one senders_0 takers_0 left_0 left more left_1 meeting sent appended = record {
+      lines = lasts.0;
+      account = λ w.
+          (let before = meeting.account w in
+          let split : sum_by w s.sent ≡ sum_by w t.taken + sum_by w more = ap (sum_by w) sent ∙ sum_by-append w t.taken more in
+          let grown : sum_by w left_1 ≡ sum_by w left + sum_by w more = ap (sum_by w) appended ∙ sum_by-append w left more in
+          let outs = ap (sum_by (λ (s : Sender P T). sum_by w s.sent)) sender ∙ sum_by_push (λ (s : Sender P T). sum_by w s.sent) senders_1 s in
+          let ins = ap (sum_by (λ (t : Taker P T). sum_by w t.taken)) taker ∙ sum_by_push (λ (t : Taker P T). sum_by w t.taken) takers_1 t in
+          omega (arith, before, split, grown, outs, ins));
+    }
+
+  -- as many senders as takers
+  pub as_many_met : (senders : List (Sender P T)) (takers : List (Taker P T)) → map (λ s. s.channel) senders ≡ map (λ t. t.channel) takers → length senders ≡ length takers
+  as_many_met senders takers lines = sym (length-map senders (λ (s : Sender P T). s.channel)) ∙ ap length lines ∙ length-map takers (λ (t : Taker P T). t.channel)
+
+  pub all_met : (senders_0 : List (Sender P T)) (takers_0 : List (Taker P T)) (left_0 : List T) (senders : List (Sender P T)) (left : List T) → IsMeeting senders_0 takers_0 left_0 senders [] left
+      → (w : T → ℕ) → sum_by (λ s. sum_by w s.sent) senders_0 + sum_by w left_0 ≡ weight_taken w takers_0 + sum_by w left
+  all_met senders_0 takers_0 left_0 [] left meeting w = let account = meeting.account w in omega (arith, account)
+  all_met senders_0 takers_0 left_0 (s ∷ ss) left meeting w = absurd (let same = as_many_met (s ∷ ss) [] meeting.lines in omega (arith, same))
+
+-- what holds while ends are brought together
+pub record IsKept (Settling Room Same Used OfNet : Type 0) : Type 0 where
+  pub settling : Settling
+  pub room : Room
+  pub same : Same
+  pub used : Used
+  pub of_net : OfNet

@@ -1,5 +1,5 @@
 -- What finish makes of the parts of a net.
-use Rattle.std.specs.Prelude.{◌≡◌, ℕ, ◌+◌, ◌<◌, ◌≤◌, List, [], None, Vec, length, sum_by, slice_index_or, vec_capacity}
+use Rattle.std.specs.Prelude.{◌≡◌, ℕ, ◌+◌, ◌<◌, List, None, Vec, length, sum_by, slice_index_or}
 use Rattle.std.specs.Global.{Global}
 use Rattle.ir_model.specs.Topology.{node_count}
 use Rattle.ir_worker.specs.declared.node.Node.{Node}
@@ -17,7 +17,6 @@ use Rattle.ir_control.specs.Told.{weight_settled}
 pub record AreEmptyPartRows (n ways : ℕ) (rows : PartRows) : Type 0 where
   pub slots_count : length rows.slots.items ≡ n
   pub slots_empty : (k : ℕ) → slice_index_or rows.slots.items k None ≡ None
-  pub outs : (rows.outs.items ≡ []) × (n ≤ vec_capacity rows.outs)
   pub ends : AreEmptyRows n ways rows.ends
 
 -- every node of the net is there

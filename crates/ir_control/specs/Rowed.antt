@@ -4,7 +4,6 @@ use Rattle.ir_model.specs.Topology.{node_count}
 use Rattle.ir_worker.specs.declared.node.Node.{Node}
 use Rattle.ir_worker.specs.declared.parcel.Outcome.{Outcome}
 use Rattle.ir_worker.specs.Seen.{Parcel}
-use Rattle.ir_worker.specs.Wires.{Out}
 use Rattle.ir_control.specs.declared.leaving.EndRows.{EndRows}
 use Rattle.ir_control.specs.declared.net.Net.{Net}
 use Rattle.ir_control.specs.Places.{offset}
@@ -80,8 +79,3 @@ pub record AreWeighed (all slots : List (Option Node)) (rows : EndRows) : Type 0
   pub settlings : (w : Outcome → ℕ) → weight_settled w rows.settled.items + sum_by (slot_weight (node_settled w)) slots ≡ sum_by (slot_weight (node_settled w)) all
   pub takings : (w : Parcel → ℕ) → rows_taken w rows + sum_by (slot_weight (node_taken w)) slots ≡ sum_by (slot_weight (node_taken w)) all
   pub sendings : (w : Parcel → ℕ) → times_in_slots w rows.senders.items + sum_by (slot_weight (node_sent w)) slots ≡ sum_by (slot_weight (node_sent w)) all
-
--- What was sent, by the injector and by the nodes, is what was taken and what is left, whatever each parcel weighs.
-abbrev pub LeavesAccount : List (Option Out) → EndRows → List Parcel → List Parcel → Type 0
-LeavesAccount injected rows before after = (w : Parcel → ℕ)
-    → (times_in_slots w injected + times_in_slots w rows.senders.items) + sum_by w before ≡ rows_taken w rows + sum_by w after

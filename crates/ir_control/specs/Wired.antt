@@ -42,11 +42,6 @@ pub record IsOpening (registry : Registry) (net : Topology) (stamp : Stamp) : Ty
   pub few_nodes : node_count net ≤ MAX_NODES
   pub few_links : length net.links ≤ MAX_LINKS
 
--- each node's place is its number
-pub record AreEntries (n : ℕ) (entries : List ℕ) : Type 0 where
-  pub count : length entries ≡ n
-  pub each : (u : ℕ) → u < n → slice_index entries u ≡ u
-
 -- the place of each node's first port
 pub record AreOffsets (net : Topology) (offsets : List ℕ) : Type 0 where
   pub count : length offsets ≡ node_count net

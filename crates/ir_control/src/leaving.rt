@@ -1,13 +1,13 @@
 //! What the nodes settled and what is left in the channels.
 ghost use Rattle.std.specs.Prelude.{◌≡◌, ◌≤◌, ◌+◌, ◌++◌, [], ℕ, Some, IfOk, length, map, sum_by, vec_len, vec_capacity};
 ghost use Rattle.ir_model.specs.Topology.{node_count};
-ghost use Rattle.ir_worker.specs.{Seen.Parcel, Account.lines_out};
+ghost use Rattle.ir_worker.specs.{Seen.Parcel, Account.{lines_in, lines_out}};
 ghost use Rattle.ir_control.specs.{Parts.AreNodesOf, Pairs.ArePaired, Places.way_count, Told.AreSettledIn};
-ghost use Rattle.ir_control.specs.Whole.{AreOfNet, AreTakersOf, StayOfNet};
+ghost use Rattle.ir_control.specs.Whole.{AreOfNet, StayOfNet};
 ghost use Rattle.ir_control.specs.Slots.{times_in_slots, weight_taken, left_in};
 ghost use Rattle.ir_control.specs.Reported.{AreEmptyPartRows, AreAllThere, IsGathered};
 ghost use Rattle.ir_control.specs.Rowed.{AreEmptyRows, AreEndRows, AreSlotsFrom, AreWeighed};
-ghost use Rattle.ir_control.specs.Rowed.{AppendsEnds, HaveRoomFor, LeavesAccount};
+ghost use Rattle.ir_control.specs.Rowed.{AppendsEnds, HaveRoomFor};
 
 use crate::net::Net;
 use crate::outcomes::empty_slots;
@@ -40,28 +40,26 @@ fn join_all(
     }
 }
 
-// Brings the ends of the inboxes together, whose senders are the injector's, and then those of the
-// ways. Returns what the nodes settled.
-fn gather(
-    net: &Net,
-    injected: Vec<Option<Sender<Parcel>>>,
-    rows: EndRows,
+// Brings the ends of the inboxes together, in order.
+fn join_inboxes(
+    mut senders: Vec<Sender<Parcel>>,
+    mut takers: Vec<Taker<Parcel>>,
     channels: &mut Vec<Remains<Parcel>>,
-) -> Vec<Vec<Outcome>>
-    requires entries { ArePaired net.now.entries.items injected.items rows.inboxes.items }
-    requires ways { ArePaired net.now.peers.items rows.senders.items rows.takers.items }
-    requires inboxes { AreTakersOf net.now.opening net.now.restamps rows.inboxes.items }
-    requires takers { AreTakersOf net.now.opening net.now.restamps rows.takers.items }
-    requires of_net { AreOfNet net.now.opening net.now.restamps (left_in channels.old.items) }
-    requires room { vec_len channels.old + (length rows.inboxes.items + length rows.takers.items)
-        ≤ vec_capacity channels.old }
-    ensures account { LeavesAccount injected.items rows (left_in channels.old.items) (left_in channels.new.items) }
-    ensures of_net { AreOfNet net.now.opening net.now.restamps (left_in channels.new.items) }
-    ensures settled { result ≡ rows.settled }
+)
+    requires lines { lines_out senders.items ≡ lines_in takers.items }
+    requires room { vec_len channels.old + length takers.items ≤ vec_capacity channels.old }
+    ensures account { (w : Parcel → ℕ)
+        → sum_by (λ s. sum_by w s.sent) senders.items + sum_by w (left_in channels.old.items)
+        ≡ weight_taken w takers.items + sum_by w (left_in channels.new.items) }
+    ensures room { (vec_capacity channels.new ≡ vec_capacity channels.old)
+        × (vec_len channels.new ≤ vec_len channels.old + length takers.items) }
+    ensures of_net { StayOfNet takers.items (left_in channels.old.items) (left_in channels.new.items) }
 {
-    join_all(net.entries.as_slice(), injected, rows.inboxes, channels);
-    join_all(net.peers.as_slice(), rows.senders, rows.takers, channels);
-    rows.settled
+    while let Some(taker) = takers.pop() {
+        if let Some(sender) = senders.pop() {
+            channels.push_reserved(join(sender, taker));
+        }
+    }
 }
 
 // Moves all of a row to the end of another, which has room.
@@ -128,11 +126,10 @@ fn take_apart(net: &Net, mut slots: Vec<Option<Node>>, rows: &mut EndRows)
     }
 }
 
-/// A slot for each node, one for each end of the injector, and rows for the ends of all nodes.
+/// A slot for each node, and rows for the ends of all nodes.
 #[derive(Drop)]
 pub(crate) struct PartRows {
     pub(crate) slots: Vec<Option<Node>>,
-    pub(crate) outs: Vec<Option<Sender<Parcel>>>,
     pub(crate) ends: EndRows,
 }
 
@@ -142,7 +139,6 @@ pub(crate) fn empty_rows(alloc: Global, nodes: usize, ways: usize) -> Result<Par
 {
     Ok(PartRows {
         slots: empty_slots(alloc, nodes)?,
-        outs: Vec::with_capacity(alloc, nodes)?,
         ends: EndRows {
             inboxes: Vec::with_capacity(alloc, nodes)?,
             takers: Vec::with_capacity(alloc, ways)?,
@@ -172,11 +168,11 @@ pub(crate) fn left_over(
 {
     let PartRows {
         mut slots,
-        mut outs,
         mut ends,
     } = rows;
     place_all(nodes, &mut slots);
-    append_slots(&mut outs, injected);
     take_apart(net, slots, &mut ends);
-    gather(net, outs, ends, channels)
+    join_inboxes(injected, ends.inboxes, channels);
+    join_all(net.peers.as_slice(), ends.senders, ends.takers, channels);
+    ends.settled
 }

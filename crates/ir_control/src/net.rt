@@ -3,7 +3,7 @@ ghost use Rattle.std.specs.{Prelude.{◌≡◌, ◌⊎◌, ◌<◌, ◌≤◌, I
 ghost use Rattle.ir_model.specs.{Topology.node_count, Walk.IsDisconnected};
 ghost use Rattle.ir_core.specs.{Meaning.IsMade, declared.TheConstants.{MAX_PACKETS, MAX_RESTAMPS}, Opened.open_refused};
 ghost use Rattle.ir_control.specs.{Places.offset, Opened.IsNetRefusal};
-ghost use Rattle.ir_control.specs.Wired.{AreInboxes, AreWiredWays, AreEntries, AreOffsets, IsOpening};
+ghost use Rattle.ir_control.specs.Wired.{AreInboxes, AreWiredWays, AreOffsets, IsOpening};
 ghost use Rattle.ir_epochs.specs.Stamps.{IsOf, knows};
 
 use crate::channels::{ChannelTerms, all_ends, inboxes_of, ins_of, outs_of, peers_of, ways_of};
@@ -45,7 +45,6 @@ pub struct Net {
     pub(crate) restamps: u8,
     pub(crate) opening: Stamp,
     pub(crate) inboxes: Vec<Channel<Parcel>>,
-    pub(crate) entries: Vec<usize>,
     pub(crate) ways: Vec<Channel<Parcel>>,
     pub(crate) peers: Vec<usize>,
     offsets: Vec<usize>,
@@ -53,7 +52,6 @@ pub struct Net {
     settled: Arc<AtomicU32, Global>,
     ghost opened: { IsOpening (arc_value registry) topology opening },
     ghost inboxes_are: { AreInboxes topology opening restamps capacity inboxes.items },
-    ghost entries_are: { AreEntries (node_count topology) entries.items },
     ghost ways_are: { AreWiredWays topology opening restamps capacity ways.items peers.items },
     ghost offsets_are: { AreOffsets topology offsets.items },
     ghost few_packets: { max_packets ≤ MAX_PACKETS },
@@ -108,21 +106,9 @@ fn registered(
     }
 }
 
-// Each node's number.
-fn entries_of(alloc: Global, nodes: usize) -> Result<Vec<usize>, AllocError>
-    ensures { IfOk result (λ entries. AreEntries nodes entries.items) }
-{
-    let mut entries = Vec::with_capacity(alloc, nodes)?;
-    for u in 0..nodes {
-        entries.push(u)?;
-    }
-    Ok(entries)
-}
-
 // The channels of a net, and how they are wired.
 struct Wires {
     inboxes: Vec<Channel<Parcel>>,
-    entries: Vec<usize>,
     ways: Vec<Channel<Parcel>>,
     peers: Vec<usize>,
     offsets: Vec<usize>,
@@ -137,18 +123,16 @@ fn wires_of(
     requires { 0 < terms.now.capacity }
     ensures inboxes { IfOk result (λ wires. AreInboxes topology.now terms.now.opening.now terms.now.restamps
         terms.now.capacity wires.inboxes.items) }
-    ensures entries { IfOk result (λ wires. AreEntries (node_count topology.now) wires.entries.items) }
     ensures ways { IfOk result (λ wires. AreWiredWays topology.now terms.now.opening.now terms.now.restamps
         terms.now.capacity wires.ways.items wires.peers.items) }
     ensures offsets { IfOk result (λ wires. AreOffsets topology.now wires.offsets.items) }
 {
-    let entries = entries_of(alloc, topology.nodes())?;
+    topology.invariant();
     let (ways, offsets) = ways_of(alloc, topology, terms)?;
     let peers = peers_of(alloc, topology, offsets.as_slice())?;
     let inboxes = inboxes_of(alloc, topology, terms)?;
     Ok(Wires {
         inboxes,
-        entries,
         ways,
         peers,
         offsets,
@@ -217,7 +201,6 @@ impl Net {
         let (registry, settled) = shared(alloc, registry)?;
         let Wires {
             inboxes,
-            entries,
             ways,
             peers,
             offsets,
@@ -232,7 +215,6 @@ impl Net {
             restamps: opening.restamps,
             opening: first,
             inboxes,
-            entries,
             ways,
             peers,
             offsets,

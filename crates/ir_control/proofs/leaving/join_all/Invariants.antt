@@ -2,15 +2,8 @@ use Rattle.ir_epochs.specs.declared.registry.Stamp.{Stamp}
 use Rattle.ir_control.specs.Whole.{AreOfNet, AreTakersOf}
 use Rattle.ir_control.specs.Slots.{left_in}
 use Rattle.std.specs.Prelude.{ℕ, ◌≡◌, ◌+◌, ◌≤◌, length, vec_len, vec_capacity}
-use Rattle.ir_control.proofs.Meetings.{IsSettling}
+use Rattle.ir_control.proofs.Meetings.{IsKept, IsSettling}
 use Rattle.ir_control.proofs.leaving.join_all.Given as goal
-
-pub record IsKept (Settling Room Same Used OfNet : Type 0) : Type 0 where
-  pub settling : Settling
-  pub room : Room
-  pub same : Same
-  pub used : Used
-  pub of_net : OfNet
 
 abbrev pub invariant-loop-taker : goal.invariant-loop-taker
 invariant-loop-taker l = IsKept

@@ -9,7 +9,6 @@ invariant_of-result c =
     record {
       opened = subst (λ (r : Registry). IsOpening r c.args.opening.topology c.args.first) (sym c.in_ok-registry.ensures) c.requires.first;
       inboxes_are = wires.inboxes;
-      entries_are = wires.entries;
       ways_are = wires.ways;
       offsets_are = wires.offsets;
       few_packets = c.requires.packets;
