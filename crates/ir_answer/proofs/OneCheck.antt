@@ -32,7 +32,7 @@ use Rattle.ir_answer.specs.Asked.{CheckAnswers}
 use Rattle.ir_answer.specs.Checks.{IsClean, IsCleanTrace, IsFound, IsFoundWhole, AnswersTrace, AnswersWhole, AnswersTraceAsked, AreReplayed, run_with, AnswersCheck, AnswersChecked}
 use Rattle.ir_answer.proofs.SameInstalls.{not_both, have_same_plans, finds_moved}
 use Rattle.ir_answer.proofs.OneFault.{told_same}
-use Rattle.ir_answer.proofs.RowsOver.{rows_over}
+use Rattle.ir_trace.proofs.ReadWithin.{rows_over}
 use Rattle.ir_answer.proofs.OneText.{three_same}
 use Rattle.ir_answer.proofs.OneWhole.{whole_found, first_same}
 

@@ -1,10 +1,10 @@
--- The nodes of what is read are those of the graph.
+-- The nodes of what is read are those of the network, whatever list of names and neighbours the graph is.
 use Rattle.std.proofs.Common.{◌≡◌, ◌<◌, ◌≤◌, ◌&&◌, ℕ, zero, suc, true, not, List, [], ◌∷◌, length, map, Some, Result, Ok, Err, IfOk, nat_lt, nat_le, bytes_eq, refl, sym, ap, subst, ◌∙◌, arith}
 use Rattle.std.specs.List.{list_all}
 use Rattle.std.proofs.lemmas.Bool.{and_parts, and_from, eqb-true, leb-true, lt-ltb}
 use Rattle.std.proofs.lemmas.List.{length-map}
 use Rattle.std.proofs.lemmas.List.Quantifiers.{position-Some}
-use Rattle.ir_model.specs.Graph.{Name, Adjacency, names, IsGraph}
+use Rattle.ir_model.specs.Graph.{Name, Adjacency, names}
 use Rattle.ir_model.specs.Topology.{node_count}
 use Rattle.ir_model.specs.OfGraph.{topology_of_graph}
 use Rattle.ir_trace.specs.declared.TheConstants.{MAX_SEGMENTS}
@@ -14,14 +14,17 @@ use Rattle.ir_trace.specs.Row.{Segment, TraceRow}
 use Rattle.ir_trace.specs.Rows.{PartText, RowText, IsRowText, is_part_text, is_mark, fits_version}
 use Rattle.ir_trace.specs.Reading.{node_named, PartsAreReadAs, IsReadAs, AreReadAs, IsTrace}
 use Rattle.ir_trace.specs.Checked.{is_part_over, IsRowOver, AreRowsOver}
-use Rattle.ir_trace.proofs.ReadLinks.{count}
 use Rattle.ir_trace.proofs.ReadSpellings.{part_is}
 
-module _ (g : Adjacency) (graph : IsGraph g) where
+module _ (g : Adjacency) where
+  -- the network of a graph has its nodes
+  pub count : node_count (topology_of_graph g) ≡ length g
+  count = simp length-map
+
   named_within : (w : Name) (u : ℕ) → node_named (names g) w ≡ Some u → u < node_count (topology_of_graph g)
   named_within w u e =
       let len : length (names g) ≡ length g = simp length-map in
-      omega (arith, (position-Some (bytes_eq w) (names g) u [] e).0, len, count g graph)
+      omega (arith, (position-Some (bytes_eq w) (names g) u [] e).0, len, count)
 
   hops_within : (words : List Name) (hops : List ℕ) → map (node_named (names g)) words ≡ map (λ u. Some u) hops → list_all (λ u. nat_lt u (node_count (topology_of_graph g))) hops ≡ true
   hops_within words [] e = refl
@@ -73,6 +76,9 @@ module _ (g : Adjacency) (graph : IsGraph g) where
   rows_within v (t ∷ texts) (r ∷ rows) are zero row at = let same : r ≡ row = cc at in subst (IsRowOver (node_count (topology_of_graph g))) same (row_within v t r are.0 are.1)
   rows_within v (t ∷ texts) (r ∷ rows) are (suc i) row at = rows_within v texts rows are.2 i row at
 
+  pub rows_over : (text : List ℕ) (rows : List TraceRow) → IsTrace g text rows → AreRowsOver (node_count (topology_of_graph g)) rows
+  rows_over text rows is = rows_within is.0 is.1.0 rows is.1.2
+
   pub read_within : {E : Type 0} (text : List ℕ) (r : Result (List TraceRow) E) → IfOk r (λ rows. IsTrace g text rows) → IfOk r (λ rows. AreRowsOver (node_count (topology_of_graph g)) rows)
-  read_within text (Ok rows) read = rows_within read.0 read.1.0 rows read.1.2
+  read_within text (Ok rows) read = rows_over text rows read
   read_within text (Err e) read = tt

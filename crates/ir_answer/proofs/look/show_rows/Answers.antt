@@ -5,7 +5,7 @@ use Rattle.ir_plan.specs.Building.{labelling_of}
 use Rattle.ir_answer.specs.declared.look.Show.TheVariants.{Rows}
 use Rattle.ir_answer.specs.Looks.{AnswerShows, AnswersShow}
 use Rattle.ir_answer.proofs.Answering.{gives_more}
-use Rattle.ir_answer.proofs.RowsOver.{count}
+use Rattle.ir_trace.proofs.ReadWithin.{count}
 use Rattle.ir_answer.proofs.Looking.{shown_plan}
 use Rattle.ir_answer.proofs.look.show_rows.Goals as goal
 

@@ -7,7 +7,7 @@ use Rattle.ir_model.specs.Graph.{names}
 use Rattle.ir_plan.specs.Building.{labelling_of}
 use Rattle.ir_answer.specs.Looks.{AreAmong, AnswerShows, AnswersShow}
 use Rattle.ir_answer.proofs.Answering.{gives_more}
-use Rattle.ir_answer.proofs.RowsOver.{count}
+use Rattle.ir_trace.proofs.ReadWithin.{count}
 use Rattle.ir_answer.proofs.Looking.{shown_plan}
 use Rattle.ir_answer.proofs.look.show_text.Goals as goal
 
