@@ -1,8 +1,15 @@
 """Kind landmark: its words, what refuses them, and worked plans."""
 from __future__ import annotations
 
+import itertools
+import os
+import re
+
+from support.book import ByTheBook
+from support.checks import count
 from support.marks import built
-from support.route import expect, put, run
+from support.places import TOP
+from support.route import brief, expect, put, run
 
 pytestmark = [built]
 
@@ -38,6 +45,38 @@ def test_landmarks_told() -> None:
     for kind in ("tree", "shortest", "compact"):
         got, faults, status = run(["stats", "--kind", kind, "--with", "landmark", "--stretch", "150", "-"], PATH)
         expect(f"no landmarks of {kind}", (got[got.find(b"landmarks"):][:1], faults, status), b"\n", b"", 0)
+
+
+def blocks_by_the_book(text: str, landmarks: list[str]) -> dict[str, str]:
+    """The landmark of each node: the nearest, of several as near the one that is named first in the text."""
+    book = ByTheBook(text)
+    away = {landmark: book.distances(landmark) for landmark in landmarks}
+    return {node: min(landmarks, key=lambda landmark: (away[landmark][node], book.names.index(landmark))) for node in book.names}
+
+
+def test_landmarks_drawn() -> None:
+    """A drawing has a box for each landmark and one colour for each block, by the definitions; of another kind neither."""
+    with open(os.path.join(TOP, "examples/nsfnet.edgelist")) as file:
+        nsfnet = file.read()
+    nets = {"nsfnet": nsfnet, "path": "a b 1\nb c 1\nc d 1\nd e 1\ne f 1\nf g 1\n", "pair": "a b 1\n"}
+    for (name, text), more in itertools.product(nets.items(), ([], ["--landmarks", "1"], ["--landmarks", "4"], ["--landmarks", "9"])):
+        words = ["--format", "edgelist", "--kind", "landmark", *more, put(f"landmarks/{name}", text)]
+        figures = run(["stats", *words])[0].decode().splitlines()
+        landmarks = next(line.split()[1:] for line in figures if line.startswith("landmarks "))
+        blocks, colours = blocks_by_the_book(text, landmarks), {}
+        for line in run(["draw", *words])[0].decode().splitlines():
+            found = re.fullmatch(r'  "(.+)" \[label="(.+) \d+"(, shape=box)?, style=filled, fillcolor="/set312/(\d+)"\];', line)
+            if found:
+                count(f"{name} {more}, the shape of {found[1]}", None if bool(found[3]) == (found[1] in landmarks) else line)
+                colours[found[1]] = int(found[4])
+        is_right = len(colours) == len(blocks) and all(1 <= colour <= 12 for colour in colours.values())
+        count(f"{name} {more}, each node has a colour", None if is_right else f"{colours}")
+        for u, v in itertools.combinations(colours, 2):
+            is_alike = (colours[u] == colours[v]) == (blocks[u] == blocks[v])
+            count(f"{name} {more}, the colours of {u} and {v}", None if is_alike else f"{colours}")
+    for kind in ("tree", "shortest", "compact"):
+        got = run(["draw", "--format", "edgelist", "--kind", kind, put("landmarks/pair", nets["pair"])])
+        count(f"no marks of {kind}", None if b"set312" not in got[0] and b"shape" not in got[0] else brief(got[0]))
 
 
 def test_landmarks_words() -> None:

@@ -1,15 +1,14 @@
 -- The rows of a whole net.
-use Rattle.std.specs.Prelude.{◌≡◌, ℕ, zero, suc, ◌+◌, ◌<◌, ◌≤◌, Bool, true, false, ltb, cond, List, [], ◌∷◌, All, Option, Some, None, length, map, sum_by, slice_get, slice_index, slice_index_or}
+use Rattle.std.specs.Prelude.{◌≡◌, ℕ, zero, suc, ◌+◌, ◌<◌, ◌≤◌, Bool, true, false, ltb, cond, List, [], ◌∷◌, All, Option, Some, None, length, sum_by, slice_get, slice_index, slice_index_or}
 use Rattle.std.proofs.Common.{refl, arith, sym, ap, ◌∙◌, subst, map-id}
 use Rattle.std.proofs.lemmas.Bool.{ltb-false}
 use Rattle.std.proofs.lemmas.Option.{none-some, same_Some, slice_get-get_or, get_or_from_slice_get, slice_get_within}
-use Rattle.std.proofs.lemmas.List.{length-map}
 use Rattle.ir_model.specs.Topology.{node_count}
 use Rattle.ir_links.specs.Ends.{Channel, Sender, Taker}
 use Rattle.ir_worker.specs.declared.node.Node.{Node}
 use Rattle.ir_worker.specs.declared.parcel.Place.{Place}
 use Rattle.ir_worker.specs.Account.{lines_in}
-use Rattle.ir_worker.specs.Wires.{In, Out}
+use Rattle.ir_worker.specs.Wires.{In}
 use Rattle.ir_control.specs.declared.leaving.EndRows.{EndRows}
 use Rattle.ir_control.specs.declared.net.Net.{Net}
 use Rattle.ir_control.specs.Pairs.{ArePeers, ArePaired, slot_line, line_at}
@@ -20,7 +19,6 @@ use Rattle.ir_control.specs.Rowed.{AllGet, AreEndRows, AreSlotsFrom}
 use Rattle.ir_control.specs.Slots.{slot_weight, hit, once, IsAt, AllAt, AllIn}
 use Rattle.ir_control.specs.Whole.{AreTakersOf}
 use Rattle.ir_control.proofs.Rows.{offset_all, place_of}
-use Rattle.ir_control.proofs.Rowing.{slot_get}
 use Rattle.ir_control.proofs.Slotted.{counts_no_other, full_at}
 use Rattle.ir_control.proofs.Sums.{sum_of_none}
 use Rattle.ir_control.proofs.Wiring.{map_eq, sum_nothing}

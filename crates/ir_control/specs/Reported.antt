@@ -1,5 +1,5 @@
 -- What finish makes of the parts of a net.
-use Rattle.std.specs.Prelude.{◌≡◌, ℕ, ◌+◌, ◌<◌, ◌≤◌, List, [], None, Vec, length, sum_by, slice_index_or, vec_capacity}
+use Rattle.std.specs.Prelude.{◌≡◌, ℕ, ◌+◌, ◌<◌, List, None, Vec, length, sum_by, slice_index_or}
 use Rattle.std.specs.Global.{Global}
 use Rattle.ir_model.specs.Topology.{node_count}
 use Rattle.ir_worker.specs.declared.node.Node.{Node}

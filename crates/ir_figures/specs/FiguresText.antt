@@ -4,10 +4,10 @@ use Rattle.std.specs.Option.{option_map_or}
 use Rattle.ir_model.specs.declared.Kind.{Kind}
 use Rattle.ir_model.specs.declared.Kind.TheVariants.{Tree, Shortest, Compact, Landmark}
 use Rattle.ir_model.specs.Graph.{Name}
-use Rattle.ir_model.specs.Landmark.{AreMostLinked}
 use Rattle.ir_model.specs.Topology.{Topology, node_count, port_at}
 use Rattle.ir_model.specs.Plan.{Plan}
 use Rattle.ir_trace.specs.Written.{name_at}
+use Rattle.ir_show.specs.Drawing.{ArePlanLandmarks}
 use Rattle.ir_show.specs.Words.{line_text}
 use Rattle.ir_show.specs.StatsText.{count_line, IsStatsOf}
 use Rattle.ir_figures.specs.declared.most.Most.{Most}
@@ -27,13 +27,6 @@ most_line nodes plan (Some m) = line_text (codes "compactness" ∷ name_at nodes
 -- `bits ROWS TABLES`
 abbrev pub bits_line : ℕ → ℕ → List ℕ
 bits_line rows tables = line_text (codes "bits" ∷ decimal rows ∷ decimal tables ∷ [])
-
--- the landmarks of a landmark plan; another plan has none
-abbrev pub ArePlanLandmarks : Kind → Plan → List ℕ → Type 0
-ArePlanLandmarks Tree plan landmarks = landmarks ≡ []
-ArePlanLandmarks Shortest plan landmarks = landmarks ≡ []
-ArePlanLandmarks Compact plan landmarks = landmarks ≡ []
-ArePlanLandmarks (Landmark t) plan landmarks = AreMostLinked plan.topology plan.root t.landmarks landmarks
 
 -- `landmarks NODE NODE ..` and `stretch PERCENT` of a landmark plan
 abbrev pub landmarks_text : List Name → Kind → List ℕ → List ℕ

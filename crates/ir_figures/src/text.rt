@@ -3,9 +3,9 @@ ghost use Rattle.std.specs.Prelude.{◌≡◌, ◌<◌, ◌++◌, ◌∷◌, ℕ
 ghost use Rattle.std.specs.Option.{option_map};
 ghost use Rattle.ir_model.specs.{Graph.names, Topology.node_count};
 ghost use Rattle.ir_trace.specs.{Rows.spaced, Written.name_at};
-ghost use Rattle.ir_show.specs.{StatsText.count_line, Words.line_text};
+ghost use Rattle.ir_show.specs.{Drawing.ArePlanLandmarks, StatsText.count_line, Words.line_text};
 ghost use Rattle.ir_figures.specs.Compactness.{HasPortNumber};
-ghost use Rattle.ir_figures.specs.FiguresText.{most_line, bits_line, landmarks_text, ring_line, AreFiguresOf, ArePlanLandmarks, AreFiguresBeside};
+ghost use Rattle.ir_figures.specs.FiguresText.{most_line, bits_line, landmarks_text, ring_line, AreFiguresOf, AreFiguresBeside};
 
 use crate::bits::{Bits, bits_of};
 use crate::most::{Most, most_intervals};

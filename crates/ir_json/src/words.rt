@@ -1,8 +1,9 @@
 //! Words as values of JSON.
 ghost use Rattle.std.specs.Prelude.{◌≡◌, ◌<◌, ◌≤◌, ◌++◌, not, OnOk, length, position, string_bytes, bytes_eq};
-ghost use Rattle.std.specs.List.{list_all, prefix_len};
+ghost use Rattle.std.specs.List.{prefix_len};
 ghost use Rattle.ir_json.specs.Words.{hex_digit, json_byte, json_escaped, json_string, is_digit_byte, is_whole_number, json_number, goal, before_mark, behind_mark};
 
+use ir_adjlist::digits::all_digits;
 use ir_growth::{Refusal, push_char, push_str};
 
 /// A digit of base 16.
@@ -50,12 +51,6 @@ fn is_digit_byte(byte: u8) -> bool
     ensures { result ≡ is_digit_byte byte }
 {
     byte >= b'0' && byte <= b'9'
-}
-
-fn all_digits(word: &[u8]) -> bool
-    ensures { result ≡ list_all is_digit_byte word.now }
-{
-    word.iter().all(|byte| is_digit_byte(*byte))
 }
 
 /// Writes a word as a number; what is none as null.

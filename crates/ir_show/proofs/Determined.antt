@@ -2,6 +2,9 @@
 use Rattle.std.proofs.Common.{◌≡◌, ◌≢◌, ℕ, ◌<◌, ◌==◌, List, ◌++◌, Option, Some, None, refl, sym, ap, ◌∙◌, ⊎_elim, ◌⊎◌, arith}
 use Rattle.std.specs.Prelude.{if◌then◌else◌}
 use Rattle.std.proofs.lemmas.Bool.{cases_eq}
+use Rattle.ir_bounds.proofs.Determined.{most_linked_same}
+use Rattle.ir_model.specs.declared.Kind.{Kind}
+use Rattle.ir_model.specs.declared.Kind.TheVariants.{Tree, Shortest, Compact, Landmark}
 use Rattle.ir_model.specs.Graph.{Name}
 use Rattle.ir_model.specs.Topology.{node_count}
 use Rattle.ir_model.specs.Walk.{walk_weight}
@@ -9,7 +12,7 @@ use Rattle.ir_model.specs.Plan.{Plan, table_port}
 use Rattle.ir_model.proofs.Tables.{prescribed_unique, distance_unique}
 use Rattle.ir_show.specs.declared.worst.Pair.{Pair}
 use Rattle.ir_show.specs.WalkText.{IsWalkOf, walk_text}
-use Rattle.ir_show.specs.Drawing.{drawing, IsBold, IsDrawingOf}
+use Rattle.ir_show.specs.Drawing.{drawing, ArePlanLandmarks, IsBold, IsDrawingOf}
 use Rattle.ir_show.specs.StatsText.{AreWalkWeights, ArePlanDistances, sum_from, sum_of_pairs, IsGreatestRow, IsEarlier, IsWorst, IsWorstOf, worst_line, rows_text, weights_text, IsStatsOf}
 use Rattle.ir_show.proofs.StatsSums.{same_sums}
 
@@ -20,8 +23,15 @@ one_walk_text nodes s a b text other x y =
 
 pub one_drawing : (nodes : List Name) (s : Plan) (ends : Option (ℕ × ℕ)) (text other : List ℕ) → IsDrawingOf nodes s ends text → IsDrawingOf nodes s ends other → text ≡ other
 one_drawing nodes s ends text other x y =
-    x.whole ∙ ap (drawing nodes s) (same ends x.walk y.walk x.bold y.bold) ∙ sym y.whole
+    x.whole ∙ ap (drawing nodes s x.landmarks) (same ends x.walk y.walk x.bold y.bold)
+    ∙ ap (λ (ls : List ℕ). drawing nodes s ls y.walk) (one_choice s.kind x.landmarks y.landmarks x.landmarks_are y.landmarks_are) ∙ sym y.whole
   where
+    one_choice : (k : Kind) (ls ls' : List ℕ) → ArePlanLandmarks k s ls → ArePlanLandmarks k s ls' → ls ≡ ls'
+    one_choice Tree ls ls' a b = a ∙ sym b
+    one_choice Shortest ls ls' a b = a ∙ sym b
+    one_choice Compact ls ls' a b = a ∙ sym b
+    one_choice (Landmark t) ls ls' a b = most_linked_same s.topology s.root t.landmarks ls ls' a b
+
     same : (ends : Option (ℕ × ℕ)) (walk walk' : List ℕ) → IsBold s ends walk → IsBold s ends walk' → walk ≡ walk'
     same None walk walk' a b = a ∙ sym b
     same (Some e) walk walk' a b = prescribed_unique s.topology (table_port s) e.0 e.1 walk walk' a b

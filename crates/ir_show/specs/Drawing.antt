@@ -1,10 +1,13 @@
 -- The drawing of a plan, for Graphviz.
-use Rattle.std.specs.Prelude.{◌≡◌, ℕ, Bool, false, ◌==◌, ◌&&◌, ◌||◌, nat_lt, if◌then◌else◌, Option, None, Some, List, [], ◌∷◌, ◌++◌, map, filter, flat_map, decimal, codes}
-use Rattle.std.specs.List.{range_with_len, join_with_byte}
+use Rattle.std.specs.Prelude.{◌≡◌, ℕ, ◌+◌, ◌%◌, Bool, false, ◌==◌, ◌&&◌, ◌||◌, nat_lt, nat_le, if◌then◌else◌, Option, None, Some, List, [], ◌∷◌, ◌++◌, length, map, filter, flat_map, sum_by, decimal, codes}
+use Rattle.std.specs.List.{range_with_len, join_with_byte, list_any}
 use Rattle.std.specs.Option.{option_map_or}
 use Rattle.ir_model.specs.declared.Hop.{Hop}
+use Rattle.ir_model.specs.declared.Kind.{Kind}
+use Rattle.ir_model.specs.declared.Kind.TheVariants.{Tree, Shortest, Compact, Landmark}
 use Rattle.ir_model.specs.Graph.{Name}
 use Rattle.ir_model.specs.Interval.{PortInterval}
+use Rattle.ir_model.specs.Landmark.{AreMostLinked}
 use Rattle.ir_model.specs.Topology.{Topology, node_count, ports_of, port_at}
 use Rattle.ir_model.specs.Row.{intervals_of}
 use Rattle.ir_model.specs.Table.{IsPrescribedWalk}
@@ -13,10 +16,42 @@ use Rattle.ir_trace.specs.Rows.{spaced}
 use Rattle.ir_trace.specs.Written.{name_at}
 use Rattle.ir_show.specs.Quoted.{escaped, quoted}
 
+-- the landmarks of a landmark plan; another plan has none
+abbrev pub ArePlanLandmarks : Kind → Plan → List ℕ → Type 0
+ArePlanLandmarks Tree plan landmarks = landmarks ≡ []
+ArePlanLandmarks Shortest plan landmarks = landmarks ≡ []
+ArePlanLandmarks Compact plan landmarks = landmarks ≡ []
+ArePlanLandmarks (Landmark t) plan landmarks = AreMostLinked plan.topology plan.root t.landmarks landmarks
+
+-- 1 for a landmark whose label is not above that of u
+abbrev pub begun_by : Plan → ℕ → ℕ → ℕ
+begun_by plan u landmark = if nat_le (label_in plan landmark) (label_in plan u) then 1 else 0
+
+-- Which block a node is of: the labels of a block begin with that of its landmark, so it is as many as there are
+-- landmarks whose labels are not above its own.
+abbrev pub block_of : Plan → List ℕ → ℕ → ℕ
+block_of plan landmarks u = sum_by (begun_by plan u) landmarks
+
+abbrev pub is_landmark : List ℕ → ℕ → Bool
+is_landmark landmarks u = list_any (λ l. l == u) landmarks
+
+-- a landmark is a box
+abbrev pub shape_text : List ℕ → ℕ → List ℕ
+shape_text landmarks u = if is_landmark landmarks u then codes ", shape=box" else []
+
+-- each block has one of twelve colours (set312 of ColorBrewer)
+abbrev pub colour_text : ℕ → List ℕ
+colour_text block = codes ", style=filled, fillcolor=\"/set312/" ++ decimal (block % 12 + 1) ++ codes "\""
+
+-- what marks a node, where there are landmarks
+abbrev pub node_marks : Plan → List ℕ → ℕ → List ℕ
+node_marks plan landmarks u = if length landmarks == 0 then [] else shape_text landmarks u ++ colour_text (block_of plan landmarks u)
+
 -- a node: its name, and for the eye its name and label
-abbrev pub node_line : List Name → Plan → ℕ → List ℕ
-node_line nodes plan u =
-    codes "  " ++ quoted (name_at nodes u) ++ codes " [label=\"" ++ escaped (name_at nodes u) ++ spaced (decimal (label_in plan u)) ++ codes "\"];\n"
+abbrev pub node_line : List Name → Plan → List ℕ → ℕ → List ℕ
+node_line nodes plan landmarks u =
+    codes "  " ++ quoted (name_at nodes u) ++ codes " [label=\"" ++ escaped (name_at nodes u) ++ spaced (decimal (label_in plan u)) ++ codes "\""
+    ++ node_marks plan landmarks u ++ codes "];\n"
 
 -- `[START,END)`
 abbrev pub span_text : ℕ → ℕ → List ℕ
@@ -69,9 +104,9 @@ abbrev pub edge_lines : List Name → Plan → List ℕ → ℕ → List ℕ
 edge_lines nodes plan walk u = flat_map (edge_line nodes plan walk u) (filter (λ hop. nat_lt u hop.node) (ports_of plan.topology u))
 
 -- a line for each node, and a line for each link from its first node on
-abbrev pub drawing : List Name → Plan → List ℕ → List ℕ
-drawing nodes plan walk =
-    codes "graph {\n" ++ flat_map (node_line nodes plan) (range_with_len 0 (node_count plan.topology))
+abbrev pub drawing : List Name → Plan → List ℕ → List ℕ → List ℕ
+drawing nodes plan landmarks walk =
+    codes "graph {\n" ++ flat_map (node_line nodes plan landmarks) (range_with_len 0 (node_count plan.topology))
     ++ flat_map (edge_lines nodes plan walk) (range_with_len 0 (node_count plan.topology)) ++ codes "}\n"
 
 -- the walk that is drawn in bold: that from a to b which the full table prescribes, or none
@@ -79,8 +114,10 @@ abbrev pub IsBold : Plan → Option (ℕ × ℕ) → List ℕ → Type 0
 IsBold plan None walk = walk ≡ []
 IsBold plan (Some ends) walk = IsPrescribedWalk plan.topology (table_port plan) ends.0 ends.1 walk
 
--- The text is a drawing of a plan, with the walk between these ends in bold, if there are any.
+-- The text is a drawing of a plan, with the walk between these ends in bold, if there are any, and its landmarks marked.
 pub record IsDrawingOf (nodes : List Name) (plan : Plan) (ends : Option (ℕ × ℕ)) (text : List ℕ) : Type 0 where
   pub walk : List ℕ
   pub bold : IsBold plan ends walk
-  pub whole : text ≡ drawing nodes plan walk
+  pub landmarks : List ℕ
+  pub landmarks_are : ArePlanLandmarks plan.kind plan landmarks
+  pub whole : text ≡ drawing nodes plan landmarks walk

@@ -1,31 +1,117 @@
 //! The drawing of a plan, for Graphviz.
-ghost use Rattle.std.specs.Prelude.{◌≡◌, ◌<◌, ◌++◌, [], if◌then◌else◌, nat_lt, IfOk, IfSome, OnOk, length, string_bytes, flat_map};
+ghost use Rattle.std.specs.Prelude.{◌≡◌, ◌<◌, ◌++◌, [], if◌then◌else◌, nat_lt, All, IfOk, IfSome, OnOk, length, string_bytes, flat_map};
 ghost use Rattle.std.specs.List.{range_with_len};
 ghost use Rattle.ir_model.specs.{Graph.names, Topology.{node_count, ports_of}, Plan.IsPlan};
 ghost use Rattle.ir_show.specs.{Before.separated, Intervals.as_interval};
-ghost use Rattle.ir_show.specs.Drawing.{node_line, interval_text, goes_by, intervals_text, are_ends, passes, edge_style, edge_labels, edge_line, edge_lines, IsBold, IsDrawingOf};
+ghost use Rattle.ir_show.specs.Drawing.{ArePlanLandmarks, begun_by, block_of, is_landmark, shape_text, colour_text, node_marks, node_line, interval_text, goes_by, intervals_text, are_ends, passes, edge_style, edge_labels, edge_line, edge_lines, IsBold, IsDrawingOf};
 
 use crate::TextResult;
 use crate::interval::{Interval, interval_at, push_interval};
 use crate::quoted::{push_escaped_name, push_quoted};
 use crate::walk::walk_between;
+use ir_bounds::most_linked;
 use ir_graph::Graph;
-use ir_model::Hop;
+use ir_model::{Hop, Kind};
 use ir_plan::Plan;
 use ir_trace::text::push_next_number;
 use std::alloc::{AllocError, Global};
 
-fn push_node(text: &mut String, graph: &Graph, plan: &Plan, u: u16) -> TextResult
+/// How many colours there are for blocks.
+const COLOURS: usize = 12;
+
+/// The landmarks of a landmark plan; none of another plan.
+fn plan_landmarks(alloc: Global, plan: &Plan) -> Result<Vec<u16>, AllocError>
+    ensures chosen { IfOk result (λ landmarks. ArePlanLandmarks plan.now.kind plan.now landmarks.items) }
+    ensures nodes { IfOk result (λ landmarks. All (λ l. l < node_count plan.now.topology) landmarks.items) }
+{
+    let Kind::Landmark(detour) = plan.kind() else {
+        return Ok(Vec::new(alloc));
+    };
+    plan.invariant();
+    let count = detour.landmarks as usize;
+    most_linked(alloc, plan.topology(), plan.root(), count)
+}
+
+/// 1 for a landmark whose label is not above that of a node, else 0.
+fn begun_by(plan: &Plan, u: u16, landmark: u16) -> usize
+    requires node { u < node_count plan.now.topology }
+    requires landmark { landmark < node_count plan.now.topology }
+    ensures { result ≡ begun_by plan.now u landmark }
+{
+    if plan.label_of(landmark) <= plan.label_of(u) {
+        1
+    } else {
+        0
+    }
+}
+
+/// Which block a node is of, counted from 1.
+fn block_of(plan: &Plan, landmarks: &[u16], u: u16) -> usize
+    requires landmarks { All (λ l. l < node_count plan.now.topology) landmarks.now }
+    requires node { u < node_count plan.now.topology }
+    ensures { result ≡ block_of plan.now landmarks.now u }
+{
+    let mut block = 0;
+    for i in 0..landmarks.len() {
+        block += begun_by(plan, u, landmarks[i]);
+    }
+    block
+}
+
+/// Whether a node is a landmark.
+fn is_landmark(landmarks: &[u16], u: u16) -> bool
+    ensures { result ≡ is_landmark landmarks.now u }
+{
+    landmarks.iter().any(|landmark| *landmark == u)
+}
+
+/// The shape of a node: a landmark is a box.
+fn shape_text(landmarks: &[u16], u: u16) -> &'static str
+    ensures { result.now ≡ shape_text landmarks.now u }
+{
+    if is_landmark(landmarks, u) {
+        ", shape=box"
+    } else {
+        ""
+    }
+}
+
+/// Writes the colour of a block.
+fn push_colour(text: &mut String, block: usize) -> TextResult
+    ensures { OnOk result (string_bytes text.new ≡ string_bytes text.old ++ colour_text block) }
+{
+    let colour = block % COLOURS + 1;
+    write!(text, ", style=filled, fillcolor=\"/set312/{colour}\"")
+}
+
+/// Writes what marks a node, where there are landmarks.
+fn push_marks(text: &mut String, plan: &Plan, landmarks: &[u16], u: u16) -> TextResult
+    requires landmarks { All (λ l. l < node_count plan.now.topology) landmarks.now }
+    requires node { u < node_count plan.now.topology }
+    ensures { OnOk result (string_bytes text.new ≡ string_bytes text.old ++ node_marks plan.now landmarks.now u) }
+{
+    if landmarks.is_empty() {
+        return Ok(());
+    }
+    text.push_str(shape_text(landmarks, u))?;
+    push_colour(text, block_of(plan, landmarks, u))
+}
+
+fn push_node(text: &mut String, graph: &Graph, plan: &Plan, landmarks: &[u16], u: u16) -> TextResult
     requires nodes { node_count plan.now.topology ≡ length graph.now }
+    requires landmarks { All (λ l. l < node_count plan.now.topology) landmarks.now }
     requires node { u < length graph.now }
-    ensures { OnOk result (string_bytes text.new ≡ string_bytes text.old ++ node_line (names graph.now) plan.now u) }
+    ensures { OnOk result (string_bytes text.new ≡ string_bytes text.old
+        ++ node_line (names graph.now) plan.now landmarks.now u) }
 {
     text.push_str("  ")?;
     push_quoted(text, graph, u)?;
     text.push_str(" [label=\"")?;
     push_escaped_name(text, graph, u)?;
     push_next_number(text, plan.label_of(u) as usize)?;
-    text.push_str("\"];\n")
+    text.push_str("\"")?;
+    push_marks(text, plan, landmarks, u)?;
+    text.push_str("];\n")
 }
 
 /// Whether the port of an interval of a node's row is by a link.
@@ -153,13 +239,14 @@ fn push_edges(text: &mut String, graph: &Graph, plan: &Plan, walk: &[u16], u: u1
     Ok(())
 }
 
-fn push_all_nodes(text: &mut String, graph: &Graph, plan: &Plan) -> TextResult
-    requires { node_count plan.now.topology ≡ length graph.now }
-    ensures { OnOk result (string_bytes text.new ≡ string_bytes text.old
-        ++ flat_map (node_line (names graph.now) plan.now) (range_with_len 0 (node_count plan.now.topology))) }
+fn push_all_nodes(text: &mut String, graph: &Graph, plan: &Plan, landmarks: &[u16]) -> TextResult
+    requires nodes { node_count plan.now.topology ≡ length graph.now }
+    requires landmarks { All (λ l. l < node_count plan.now.topology) landmarks.now }
+    ensures { OnOk result (string_bytes text.new ≡ string_bytes text.old ++ flat_map
+        (node_line (names graph.now) plan.now landmarks.now) (range_with_len 0 (node_count plan.now.topology))) }
 {
     for u in 0..plan.nodes() {
-        push_node(text, graph, plan, u as u16)?;
+        push_node(text, graph, plan, landmarks, u as u16)?;
     }
     Ok(())
 }
@@ -194,9 +281,11 @@ fn bold_walk(alloc: Global, plan: &Plan, ends: Option<(u16, u16)>) -> Result<Vec
 
 /// The drawing of a plan for Graphviz: a `graph` with a statement for each node, with its name and
 /// label, and one for each link, with its weight and at each end the intervals of its port; the
-/// links of the walk from the first of the ends to the second are bold. Condition: the plan is over
-/// the graph's network, and the ends are nodes. It is refused for memory alone. Takes O(n + m (k +
-/// w)), for n nodes and m links, at most k starts in a row, and w nodes on the bold walk.
+/// links of the walk from the first of the ends to the second are bold. In a landmark plan the
+/// landmarks are boxes, and each block has one of twelve colours. Condition: the plan is over the
+/// graph's network, and the ends are nodes. It is refused for memory alone. Takes O(n l + m (k +
+/// w)), for n nodes, l landmarks and m links, at most k starts in a row, and w nodes on the bold
+/// walk.
 pub fn draw_text(
     alloc: Global,
     graph: &Graph,
@@ -208,9 +297,10 @@ pub fn draw_text(
     ensures { IfOk result (λ text. IsDrawingOf (names graph.now) plan.now ends (string_bytes text)) }
 {
     let walk = bold_walk(alloc, plan, ends)?;
+    let landmarks = plan_landmarks(alloc, plan)?;
     let mut text = String::new(alloc);
     text.push_str("graph {\n")?;
-    push_all_nodes(&mut text, graph, plan)?;
+    push_all_nodes(&mut text, graph, plan, landmarks.as_slice())?;
     push_all_edges(&mut text, graph, plan, walk.as_slice())?;
     text.push_str("}\n")?;
     Ok(text)

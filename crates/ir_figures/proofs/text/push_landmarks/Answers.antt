@@ -6,9 +6,10 @@ use Rattle.ir_model.specs.Graph.{names}
 use Rattle.ir_model.specs.Landmark.{AreMostLinked}
 use Rattle.ir_model.specs.Topology.{Topology}
 use Rattle.ir_trace.specs.Written.{name_at}
+use Rattle.ir_show.specs.Drawing.{ArePlanLandmarks}
 use Rattle.ir_show.specs.StatsText.{count_line}
 use Rattle.ir_show.specs.Words.{line_text}
-use Rattle.ir_figures.specs.FiguresText.{ArePlanLandmarks, landmarks_text}
+use Rattle.ir_figures.specs.FiguresText.{landmarks_text}
 use Rattle.ir_figures.proofs.Results.{on_ok_then}
 use Rattle.ir_figures.proofs.text.push_landmarks.Goals as goal
 

@@ -5,4 +5,4 @@ use Rattle.ir_show.specs.Drawing.{node_line}
 use Rattle.ir_show.proofs.draw.push_all_nodes.Given as goal
 
 abbrev pub invariant-loop-u : goal.invariant-loop-u
-invariant-loop-u l = string_bytes l.text ≡ string_bytes l.fn.text ++ flat_map (node_line (names l.graph) l.plan) (range_with_len 0 l.u)
+invariant-loop-u l = string_bytes l.text ≡ string_bytes l.fn.text ++ flat_map (node_line (names l.graph) l.plan l.landmarks) (range_with_len 0 l.u)
