@@ -34,15 +34,15 @@ _bentzolu_places() {
 _bentzolu_options() {
     case ${1-} in
         '') echo '--help --version' ;;
-        plan) echo '-f --format -k --kind --landmarks --stretch -r --root -n --numbering --threads --order --json -o --output --quiet --explain --no-explain --help' ;;
+        plan) echo '-f --format -k --kind --landmarks --stretch -r --root -n --numbering --threads --order --nodes --json -o --output --quiet --explain --no-explain --help' ;;
         walk) echo '-f --format -k --kind --landmarks --stretch -r --root -n --numbering --threads --from --to --json -o --output --quiet --explain --no-explain --help' ;;
-        stats) echo '-f --format -k --kind --landmarks --stretch -r --root -n --numbering --threads --with --json -o --output --quiet --explain --no-explain --help' ;;
+        stats) echo '-f --format -k --kind --landmarks --stretch -r --root -n --numbering --threads --with --each --json -o --output --quiet --explain --no-explain --help' ;;
         compare) echo '-f --format -r --root --threads --json -o --output --quiet --explain --no-explain --help' ;;
         draw) echo '-f --format -k --kind --landmarks --stretch -r --root -n --numbering --threads --from --to --node --svg -o --output --quiet --explain --no-explain --help' ;;
         prefixes) echo '-f --format -k --kind --landmarks --stretch -r --root -n --numbering --threads --disjoint --json -o --output --quiet --explain --no-explain --help' ;;
         ranges) echo '-f --format -k --kind --landmarks --stretch -r --root -n --numbering --threads --json -o --output --quiet --explain --no-explain --help' ;;
-        xdp) echo '-f --format -k --kind --landmarks --stretch -r --root -n --numbering --threads --node -o --output --quiet --explain --no-explain --help' ;;
-        sim) echo '-f --format -k --kind --landmarks --stretch -r --root -n --numbering --capacity --packets --restamps --json -o --output --quiet --explain --no-explain --help' ;;
+        xdp) echo '-f --format -k --kind --landmarks --stretch -r --root -n --numbering --threads --node --binary -o --output --quiet --explain --no-explain --help' ;;
+        sim) echo '-f --format -k --kind --landmarks --stretch -r --root -n --numbering --capacity --packets --restamps --steps --json -o --output --quiet --explain --no-explain --help' ;;
         live) echo '-f --format -k --kind --landmarks --stretch -r --root -n --numbering --capacity --packets --restamps --json -o --output --quiet --explain --no-explain --help' ;;
         check) echo '-f --format -k --kind --landmarks --stretch -r --root -n --numbering --capacity --packets --whole --json -o --output --quiet --explain --no-explain --help' ;;
     esac
@@ -58,6 +58,7 @@ _bentzolu_values() {
         plan,-r | plan,--root) echo '<node>' ;;
         plan,-n | plan,--numbering) echo 'depth-first tour <file>' ;;
         plan,--threads) echo '<any>' ;;
+        plan,--nodes) echo '<any>' ;;
         plan,-o | plan,--output) echo '<file>' ;;
         walk,-f | walk,--format) echo 'adjlist edgelist' ;;
         walk,-k | walk,--kind) echo 'tree shortest compact landmark' ;;
@@ -77,6 +78,7 @@ _bentzolu_values() {
         stats,-n | stats,--numbering) echo 'depth-first tour <file>' ;;
         stats,--threads) echo '<any>' ;;
         stats,--with) echo '<any>' ;;
+        stats,--each) echo links ;;
         stats,-o | stats,--output) echo '<file>' ;;
         compare,-f | compare,--format) echo 'adjlist edgelist' ;;
         compare,-r | compare,--root) echo '<node>' ;;
