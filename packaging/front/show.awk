@@ -231,7 +231,9 @@ function compare(i, many, cells, rows, columns, widths, c, row, heads, least, bi
         print line
     }
     print ""
-    print_words(faint, "Paths: their mean length over the shortest ones. Worst path: the longest detour. Deadlock: whether links could wait for one another in a ring, where full queues hold packets back." plain, 0)
+    printf "%s", faint
+    print_words("", "Paths: their mean length over the shortest ones. Worst path: the longest detour. Deadlock: whether links could wait for one another in a ring, where full queues hold packets back.", 0)
+    printf "%s", plain
 }
 
 function place_of(what, rest) {

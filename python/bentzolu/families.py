@@ -29,10 +29,10 @@ import difflib
 import inspect
 import random
 import sys
-from typing import Any, Callable, Dict, List, Sequence, Tuple
+from typing import Any, Callable, Dict, FrozenSet, List, Sequence, Tuple
 
 Link = Tuple[Any, ...]  # two names, and a weight where the family has its own
-Made = Tuple[str, List[Link]]  # what it is, and its links
+Made = Tuple[str, Sequence[Link]]  # what it is, and its links
 MOST_NODES, MOST_LINKS = 16_384, 65_536  # of a network that the program takes
 
 
@@ -105,7 +105,7 @@ def tree(nodes: int) -> Made:
 
 
 def random_network(nodes: int, wanted: int) -> Made:
-    links = tree(nodes)[1]
+    links = list(tree(nodes)[1])
     drawn = set(links)
     while len(links) < wanted:
         u, v = sorted(random.sample(range(nodes), 2))
@@ -120,7 +120,7 @@ def scalefree(nodes: int, each: int) -> Made:
     links = [(f"n{u}", f"n{each}") for u in range(each)]
     ends = [end for link in links for end in link]
     for u in range(each + 1, nodes):
-        chosen = []
+        chosen: List[str] = []
         while len(chosen) < each:
             end = random.choice(ends)
             if end not in chosen:
@@ -149,7 +149,7 @@ def hubpath(nodes: int) -> Made:
 
 def lure(nodes: int) -> Made:
     names = [f"n{u}" for u in range(nodes)]
-    links = {frozenset(link[:2]): link for link in zip(names, names[1:], [HEAVY] * nodes)}
+    links: Dict[FrozenSet[str], Link] = {frozenset(link[:2]): link for link in zip(names, names[1:], [HEAVY] * nodes)}
     links.update((frozenset(link[:2]), link) for link in light_path(names))
     return "A heavy path, and a light one through the same nodes", list(links.values())
 
@@ -158,13 +158,6 @@ def light_path(names: Sequence[str]) -> List[Link]:
     """A path through these nodes in a drawn order."""
     drawn = random.sample(names, len(names))
     return [(u, v, random.randint(1, LIGHT)) for u, v in zip(drawn, drawn[1:])]
-
-
-FAMILIES = {
-    "ring": ring, "grid": grid, "torus": torus, "constellation": constellation, "hypercube": hypercube, "clos": clos,
-    "fattree": fattree, "dragonfly": dragonfly, "complete": complete, "tree": tree, "random": random_network, "scalefree": scalefree,
-    "path": path, "star": star, "hubpath": hubpath, "lure": lure,
-}
 
 
 Family = Callable[..., Made]

@@ -228,7 +228,7 @@ async function tryRelabelling(page) {
   await settled(page);
   await page.click("#last");
   await settled(page);
-  same("the first link broken: epoch 2 has its plan", await page.value("[lab.store.now.plans.length, lab.store.now.plans[1].rows.length]"), [2, 4]);
+  same("the first link broken: each epoch has its plan", await page.value("[lab.store.now.plans.length > 1, lab.store.now.plans.map(plan => plan.rows.length).filter(it => it !== 4)]"), [true, []]);
   await example(page, 3);
   same("a network without a script gets one", await page.value("lab.store.now.last > 4 && !document.getElementById('play').disabled"), true);
   await goTo(page, 1);
