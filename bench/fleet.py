@@ -4,7 +4,7 @@
     bench/fleet.py [SIDE [PROCESSES]]      agents in great numbers, without kernels: a grid of SIDE x SIDE routers (32), in so
                                            many processes (4), from what is wanted to the stamp of all
     bench/fleet.py real                    agents of routers in namespaces, as root: changes of NSFNET and of a grid of 64, and
-                                           links that break (tests/fleet times)
+                                           links that break (tests/fleet times and times-grid)
 
 It wants Debian's etcd-server and the built program (crates/route/out/route, or that of the variable BENTZOLU_ROUTE).
 """
@@ -59,7 +59,7 @@ def some(nodes, carried):
 
 def main():
     if sys.argv[1:] == ["real"]:
-        return subprocess.run([TOP / "tests/fleet", "times"], check=False).returncode
+        return max(subprocess.run([TOP / "tests/fleet", name], check=False).returncode for name in ("times", "times-grid"))
     side, processes = (int(it) for it in [*sys.argv[1:3], "32", "4"][:2]) if len(sys.argv) < 3 else map(int, sys.argv[1:3])
     resource.setrlimit(resource.RLIMIT_NOFILE, (resource.getrlimit(resource.RLIMIT_NOFILE)[1],) * 2)
     os.environ.setdefault("BENTZOLU_ROUTE", str(TOP / "crates/route/out/route"))
