@@ -4,7 +4,7 @@
     bench/fleet.py [SIDE [PROCESSES]]      agents in great numbers, without kernels: a grid of SIDE x SIDE routers (32), in so
                                            many processes (4), from what is wanted to the stamp of all
     bench/fleet.py real                    agents of routers in namespaces, as root: changes of NSFNET and of a grid of 64, and
-                                           links that break (tests/fleet times)
+                                           links that break (tests/fleet times and times-grid)
 
 It wants Debian's etcd-server and the built program (crates/route/out/route, or that of the variable BENTZOLU_ROUTE).
 """
@@ -59,7 +59,7 @@ def some(nodes, carried):
 
 def main():
     if sys.argv[1:] == ["real"]:
-        return subprocess.run([TOP / "tests/fleet", "times"], check=False).returncode
+        return max(subprocess.run([TOP / "tests/fleet", name], check=False).returncode for name in ("times", "times-grid"))
     side, processes = (int(it) for it in [*sys.argv[1:3], "32", "4"][:2]) if len(sys.argv) < 3 else map(int, sys.argv[1:3])
     resource.setrlimit(resource.RLIMIT_NOFILE, (resource.getrlimit(resource.RLIMIT_NOFILE)[1],) * 2)
     os.environ.setdefault("BENTZOLU_ROUTE", str(TOP / "crates/route/out/route"))
@@ -104,7 +104,7 @@ def measure(path, side, processes, running):
             not all(it["live"] for it in json.loads(word("status", "--json").stdout)["members"]):
         time.sleep(1)
     print(f"{len(nodes)} agents are there in {time.monotonic() - start:.1f} s", flush=True)
-    log, longest = open(path / "controller.log", "w+", encoding="ascii"), 0
+    log, all_took = open(path / "controller.log", "w+", encoding="ascii"), []
     running.append(subprocess.Popen([sys.executable, "-m", "bentzolu", "controller", *desk], stdout=log, stderr=log,
                                     env={**os.environ, "PYTHONPATH": str(TOP / "python")}))
     for kind in ("tree", "shortest", "tree", "shortest"):
@@ -116,13 +116,14 @@ def measure(path, side, processes, running):
         at = {it["what"]: it["t"] for it in lines if it["t"] > start and it["what"] in ("begun", "compiled", "committed", "flipped", "floor")}
         times = {what: when - at["begun"] for what, when in at.items() if what != "floor"}
         took = at.get("floor", float("inf")) - GRACE - at["begun"]
-        longest = max(longest, took)
+        all_took.append(took)
         time.sleep(6)
         carried = [sum(it[i] for it in sums) - was for i, was in enumerate(before)]
         print(f"{kind}: {said}: " + ", ".join(f"{what} {at:.2f}" for what, at in times.items()) + f", stamped by all {took:.2f} s; "
               f"{carried[0] / 1e6:.1f} MB to agents, {carried[1] / 1e6:.1f} MB from them", flush=True)
-    print(f"{'ok' if longest <= MOST else 'too long'}: from begun to the stamps of all at most {longest:.2f} s of {MOST}")
-    return int(longest > MOST)
+    median = sorted(all_took)[len(all_took) // 2]
+    print(f"{'ok' if median <= MOST else 'too long'}: from begun to the stamps of all {median:.2f} s in the median, {max(all_took):.2f} at most; {MOST} may be")
+    return int(median > MOST)
 
 
 if __name__ == "__main__":

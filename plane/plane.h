@@ -13,7 +13,7 @@ enum {
     ROOT_WORDS = 16,   /* of a table's root */
     ENTRY_WORDS = 4,   /* of a table's entry in the map of all tables; store.h says what stands where */
     LEAST_MASK = 3,    /* four entries at least */
-    WHOLE_ROOT = 4,    /* words from which on the root of a table with further lines is kept whole */
+    LEAST_ROOT = 4,    /* words of a root that are kept at least */
     PORTS = 1024,      /* at most; the loader makes the maps as large as the node has neighbours */
     BYTES = 255,       /* the depth of a table that has a byte for each label */
     GROUP = 0xFD00,    /* the first group of all addresses; the second is the epoch, the last the label */

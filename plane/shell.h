@@ -113,13 +113,16 @@ static __always_inline void report(enum origin origin, struct ipv6hdr *ip, void 
 #ifdef OTHER_RULING
 static __always_inline enum verdict ruling(__u32 epoch, __u32 label, __u32 *port);
 #else
-/* The root of a table: where fewer than 16 words of it are kept, these are put before words that stand for none. */
-static __always_inline void fill(__u32 *root, const __u32 *word, __u32 from, __u64 size) {
-#pragma unroll
-    for (int i = 0; i < ROOT_WORDS; i++) {
-        __u64 is_none = (size - 1 - i) >> 63; /* below 0 from the size on */
-        asm volatile("" : "+r"(is_none));
-        root[i] = word[(from + i) & (WORDS - 1)] | -(__u32)is_none;
+/* A root of which 4 or 8 words are kept, whole again: what stands for none comes after them. */
+static __always_inline void fill(__u64 *root, const __u32 *line, __u32 where, __u32 size) {
+    const __u64 none = ~0ull;
+    root[2] = root[3] = root[4] = root[5] = root[6] = root[7] = none;
+    if (size == LEAST_ROOT) {
+        const __u64 *from = (const void *)(line + (where & (WORDS - LEAST_ROOT)));
+        root[0] = from[0], root[1] = from[1];
+    } else {
+        const __u64 *from = (const void *)(line + (where & (WORDS - 2 * LEAST_ROOT)));
+        root[0] = from[0], root[1] = from[1], root[2] = from[2], root[3] = from[3];
     }
 }
 
@@ -139,10 +142,13 @@ static __always_inline enum verdict ruling(__u32 epoch, __u32 label, __u32 *port
     __u32 verdict = bz_head(head, HEAD_WORDS, epoch, label);
     if (verdict)
         return verdict;
-    at = depth == BYTES ? first + label / (4 * WORDS) : (where & 0xFFFF) / WORDS;
-    line = bpf_map_lookup_elem(store, &at);
-    if (!line)
-        return NO_EPOCH;
+    __u32 next = depth == BYTES ? first + label / (4 * WORDS) : (where & 0xFFFF) / WORDS;
+    if (at != next) {
+        at = next;
+        line = bpf_map_lookup_elem(store, &at);
+        if (!line)
+            return NO_EPOCH;
+    }
     if (depth == BYTES) {
         *port = ((__u8 *)line->word)[label & (4 * WORDS - 1)];
         return FORWARDED;
@@ -154,10 +160,13 @@ static __always_inline enum verdict ruling(__u32 epoch, __u32 label, __u32 *port
         place = bz_place_16(root, ROOT_WORDS, key);
         word = root[place];
     } else {
-        __u32 root[ROOT_WORDS];
-        fill(root, line->word, where, size);
-        place = bz_place_16(root, ROOT_WORDS, key);
-        word = root[place];
+        union {
+            __u64 pair[ROOT_WORDS / 2];
+            __u32 word[ROOT_WORDS];
+        } root;
+        fill(root.pair, line->word, where, size);
+        place = bz_place_16(root.word, ROOT_WORDS, key);
+        word = root.word[place];
     }
     if (depth) {
         __u32 below = first - 1 + base + place * WORDS; /* a table's line 1 is the line `first` of the map */

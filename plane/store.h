@@ -3,8 +3,8 @@
  * Line 0 begins with a word of mask and three of 0. Entries of four words follow: that of epoch E is number E & mask. Their
  * words are EPOCH | OWN << 16, LABELS | BASE << 16, PLACE | SIZE << 16 | DEPTH << 24 and FIRST | REST << 16; one of epoch 0 stands
  * for none. So an entry has what line 0 of a table says, without its zeros. SIZE words of the root stand at the word PLACE, in one
- * line: all 16 of a great table, else those that are there. The other REST lines of a table stand as they are, from the line
- * FIRST on. */
+ * line: 16, or only the first 4 or 8 where the others stand for none. The other REST lines of a table stand as they are, from
+ * the line FIRST on. */
 #ifndef PLANE_STORE_H
 #define PLANE_STORE_H
 
@@ -24,12 +24,14 @@ struct held {
 
 static uint32_t *word_at(struct line *store, uint32_t place) { return store[place / WORDS].word + place % WORDS; }
 
-/* How many words of a root are kept: all of one in a table where they are a small part. */
+/* How many words of a root are kept, with what stands for none: 4, 8 or 16; all of one that is a small part of its table. */
 static uint32_t root_size(const struct held *table) {
     uint32_t size = 0;
+    if (table->line[0].word[HEAD_DEPTH] == BYTES)
+        return 0;
     while (size < ROOT_WORDS && table->line[0].word[HEAD_WORDS + size] != NO_WORD)
         size++;
-    return table->line[0].word[HEAD_DEPTH] <= 2 && size >= WHOLE_ROOT && table->lines > 1 ? ROOT_WORDS : size;
+    return size <= LEAST_ROOT ? LEAST_ROOT : size > 2 * LEAST_ROOT || table->lines > 1 ? ROOT_WORDS : 2 * LEAST_ROOT;
 }
 
 /* A mask by which no two of these tables have one entry; their epochs differ by their remainders of `slots`. */
@@ -49,11 +51,12 @@ static uint32_t mask_of(const struct held *tables, uint32_t count, uint32_t slot
     return mask;
 }
 
-/* Where a root of so many words may stand: the first line with room for it. `used` has the words of each line. */
+/* Where a root of so many words may stand: the first line with room for it, at a multiple of the size. `used` has the words of
+ * each line. */
 static uint32_t place_of(uint32_t *used, uint32_t *lines, uint32_t size) {
     uint32_t at = 0;
     for (;; at++) {
-        uint32_t from = size == ROOT_WORDS && used[at] ? (used[at] + ROOT_WORDS - 1) / ROOT_WORDS * ROOT_WORDS : used[at];
+        uint32_t from = (used[at] + size - 1) / size * size;
         if (from + size > WORDS)
             continue;
         used[at] = from + size;
@@ -76,7 +79,7 @@ static struct line *stored(const struct held *tables, uint32_t count, uint32_t s
         used[at] = WORDS;
     used[heads / WORDS] = heads % WORDS;
     *lines = (heads + WORDS - 1) / WORDS;
-    for (uint32_t size = ROOT_WORDS; size <= ROOT_WORDS; size--) /* the great ones first, down to 0 */
+    for (uint32_t size = ROOT_WORDS + 1; size-- > 0;) /* the great ones first, down to none */
         for (uint32_t i = 0; i < count; i++) {
             const uint32_t *head = tables[i].line[0].word;
             if (root_size(&tables[i]) != size)

@@ -8,7 +8,7 @@ from support.marks import alone, root, slow, within
 @alone
 @root
 @slow
-@within(900)
+@within(1500)
 def test_plane() -> None:
     """The loader, the look-up of each label in the kernel, and real packets."""
     drive("plane")

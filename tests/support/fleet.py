@@ -1123,20 +1123,19 @@ def run_grid():
     tell_times(b, "a grid of 64")
 
 
-def run_times():
+def run_times(topology, name, most):
     """What has to be reached by the clock, on a machine without other work."""
-    for topology, name, most in (("nsfnet.edgelist", "NSFNET", 0.4), ("grid8x8.adjlist", "a grid of 64", 1.0)):
+    def work():
         b = Bench(topology)
         b.up()
         changes(24)(b)
         took = tell_times(b, name)
-        count(f"times, {name}: from what is wanted to the stamps of all in {most} s", took <= most or f"{took:.3f} s")
+        count(f"times, {name}: from what is wanted to the stamps of all in {most} s", None if took <= most else f"{took:.3f} s")
         if name == "NSFNET":
             links(b, 12)
             took = tell_links(b)
-            count(f"times, {name}: from a lost carrier to the stamp in 0.5 s", took <= 0.5 or f"{took:.3f} s")
-        for process in b.processes.values():
-            process.kill()
+            count(f"times, {name}: from a lost carrier to the stamp in 0.5 s", None if took <= 0.5 else f"{took:.3f} s")
+    return work
 
 
 def costs(b, name):
@@ -1377,7 +1376,7 @@ GATE = {  # the long ones first
     "absent": (run_absent, 10), "links": (run_links, 23), "docs": (run_docs, 2), "secure": (run_secure, 8), "tags": (run_tags, 4),
     "control": (run_control, 1), "plane": (run_plane("tc"), 6), "native": (run_plane("xdp"), 6), "package": (run_package, 3),
 }
-LARGE = {**GATE, "times": (run_times, 3)}
+LARGE = {**GATE, "times": (run_times("nsfnet.edgelist", "NSFNET", 0.4), 2), "times-grid": (run_times("grid8x8.adjlist", "a grid of 64", 1.0), 1)}
 
 
 def in_own_network(name):

@@ -21,7 +21,7 @@ from bentzolu.lab_xdp import PROBE
 
 TOP = pathlib.Path.cwd()
 ROUTE = os.environ["BENTZOLU_ROUTE"]
-NODE_CHECKS, LAB_CHECKS, MODULE_CHECKS = 215, 7, 10
+NODE_CHECKS, LAB_CHECKS, MODULE_CHECKS, RATIO_CHECKS = 215, 7, 10, 5
 MOST_SECONDS = 3000 if "--large" in sys.argv else 300  # of a run of the lab
 MODULE = os.environ.pop("MODULE", None)  # of the proved search
 ABILENE, NSFNET, GRID = "examples/abilene.edgelist", "examples/nsfnet.edgelist", "examples/grid8x8.adjlist"
@@ -152,6 +152,48 @@ def of_labs():
     of_lab("--plane", "nft", "--changes", "2")
 
 
+def measured(module):
+    """What bench/plane/run measures in a few turns: for each table's name and starts or labels, ns of a look-up, kernel's bytes of one
+    more table over the row's words, packets a second; and of each change the processor's ms. None where it can't run."""
+    status, output, said = run(["bench/plane/run", "5", "30000"], 900, env={**os.environ, "MODULE": module, "PARTS": "look way change"})
+    if status:
+        return said.strip().splitlines()[-1] if "cannot run here" in said else f"status {status}: {said[-500:]}"
+    look, words, way, change = {}, {}, {}, {}
+    for cells in ([cell.strip() for cell in line.split("|")[1:-1]] for line in output.splitlines() if line.startswith("| ")):
+        if len(cells) == 8 and cells[1].isdecimal():
+            look[cells[0], int(cells[1])], words[cells[0], int(cells[1])] = float(cells[3]), float(cells[6])
+        elif len(cells) == 7 and cells[1] in ("XDP", "kernel") and cells[0] != "no look-up":
+            way[cells[0], cells[2]] = float(cells[5])
+        elif len(cells) == 3 and cells[2].replace(".", "").isdecimal():
+            change[cells[0]] = float(cells[2])
+    return look, words, way, change
+
+
+def of_ratios(module):
+    """The ratios that have to be reached, each of one run whose turns go round all tables; the first of three runs that is right."""
+    starts = (4, 16, 64, 256, 1024, 8192)
+    proved, in_c, nft, routes = "intervals, proved", "intervals, C", "nftables, one map", "routes of the kernel"
+    for _ in range(3):
+        found = measured(module)
+        if isinstance(found, str):
+            return skip(RATIO_CHECKS, found) if "cannot run here" in found else count("bench/plane/run", found)
+        look, words, way, change = found
+        search = sum(look[proved, it] for it in starts) / sum(look[in_c, it] for it in starts)
+        least = min(way[proved, str(it)] / way[nft, str(it)] for it in starts)
+        beside = min(way[proved, str(it)] for it in starts) / way[routes, "full"]
+        memory = {it: words[proved, it] for it in starts}
+        took = next(ms for what, ms in change.items() if "install a row of 1,024" in what)
+        checks = (("the proved search beside that in C, at most 1.1", search, search <= 1.1), ("XDP beside nftables' map, at least 1.5", least, least >= 1.5),
+                  ("XDP beside the kernel's routes, at least 1", beside, beside >= 1), ("an install of 1,024 starts, at most 50 ms of a processor", took, took <= 50),
+                  ("one more table over its row's words, from 16 starts on at most 1.3", memory, all(it <= 1.3 for key, it in memory.items() if key >= 16)))
+        print("plane: " + "; ".join(f"{what}: {value}" for what, value, _ in checks), flush=True)
+        if all(is_right for _, _, is_right in checks):
+            break
+    for what, value, is_right in checks:
+        count(what, None if is_right else value)
+    return None
+
+
 def of_proved(work, cannot):
     """The checks of a node over the proved search, by which the lab then runs, too."""
     given = {"MODULE": MODULE} if MODULE else {"BUILT": "1"}
@@ -160,6 +202,7 @@ def of_proved(work, cannot):
     if status == 0:
         if not cannot and "--large" not in sys.argv:
             of_node(f"{work}/proved", NODE_CHECKS)
+            of_ratios(f"{work}/proved/module.bc")
         os.environ["BENTZOLU_XDP"] = f"{work}/proved/bentzolu-xdp"
 
 
@@ -167,7 +210,7 @@ with tempfile.TemporaryDirectory(prefix="bentzolu-plane-") as folder_of_all:
     os.chmod(folder_of_all, 0o755)  # a user without rights runs the loader, too
     why = built(f"{folder_of_all}/c")
     if why:
-        skip(1 + MODULE_CHECKS + 2 * (NODE_CHECKS + 1) + 1 + LAB_CHECKS, why)
+        skip(1 + MODULE_CHECKS + 2 * (NODE_CHECKS + 1) + 1 + RATIO_CHECKS + LAB_CHECKS, why)
     else:
         os.environ["BENTZOLU_XDP"] = f"{folder_of_all}/c/bentzolu-xdp"
         of_modules(folder_of_all)
@@ -179,7 +222,7 @@ with tempfile.TemporaryDirectory(prefix="bentzolu-plane-") as folder_of_all:
         if MODULE or is_proved_below():
             of_proved(folder_of_all, refusal)
         else:
-            skip(NODE_CHECKS + 2, "the libraries of crates/plane_lines are not built")
+            skip(NODE_CHECKS + 2 + RATIO_CHECKS, "the libraries of crates/plane_lines are not built")
         if not refusal and not os.access(ROUTE, os.X_OK):
             skip(LAB_CHECKS, "the program is not built")
         elif not refusal:

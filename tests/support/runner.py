@@ -46,7 +46,7 @@ PARTS = {
 WANT_PROGRAM = {"program", "runs"}
 QUICK = {"completions", "names"}  # of some seconds, which pytest would double
 ALONE = {"dataplane", "fleet_sim", "lab", "library", "page", "plane", "runs"}  # whose tests all run alone
-MOST = {"fleet": 3}  # processes that run tests of a part at a time, where 8 are too many
+MOST = {"fleet": 4}  # processes that run tests of a part at a time, where 8 are too many
 LAST = r"(\d+) passed, (\d+) failed(?:, (\d+) skipped)?"
 
 
