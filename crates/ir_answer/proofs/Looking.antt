@@ -31,7 +31,7 @@ use Rattle.ir_cli.specs.declared.words.Sub.{Sub}
 use Rattle.ir_cli.specs.declared.words.Sub.TheVariants.{Plan as Planning, Walk, Stats, Compare, Draw, Prefixes, Ranges as Ranging, Xdp, Sim, Live, Check}
 use Rattle.ir_answer.specs.declared.look.Show.{Show}
 use Rattle.ir_answer.specs.declared.look.Show.TheVariants.{Between, Beside, Drawing, Circle}
-use Rattle.ir_answer.specs.Looks.{from_name, to_name, drawn_name, Says, AnswerShows, AnswersEnds, AnswersBothEnds, AnswersDrawn, AnswersBeside, AnswersFigures, AnswersShow, AnswersAsked, AnswersLook, AnswersLabels, AreTexts, LookAnswers, IsNode, IsLabelling, AreBeside, AreShown, IsNetwork, IsOneDrawn, IsShow, lines_shown, RefusesLabels, RefusesEnds, RefusesFigures, RefusesShow, AnswersRows, AnswersWithin, AreRows, RefusesRows, are_nodes}
+use Rattle.ir_answer.specs.Looks.{from_name, to_name, drawn_name, Says, AnswerShows, AnswersEnds, AnswersBothEnds, AnswersDrawn, AnswersBeside, AnswersFigures, AnswersShow, AnswersAsked, AnswersLook, AnswersLabels, AreTexts, LookAnswers, IsNode, IsLabelling, AreBeside, AreShown, IsNetwork, IsOneDrawn, IsShow, lines_shown, RefusesLabels, RefusesEnds, RefusesFigures, RefusesShow, AnswersPlanned, AnswersWithin, IsPlanned, RefusesPlanned, are_nodes}
 use Rattle.ir_plan.specs.Building.{Labelling, FromRoot, ByList, IsPlanBy, RefusesPlan}
 use Rattle.ir_show.specs.Alone.{IsWalkOfPlan}
 use Rattle.ir_answer.specs.Plans.{AnswersText, IsTextOfPlan}
@@ -111,7 +111,7 @@ of_figures true words g answers show answer same holds = subst (λ (s : Show). a
 of_figures false words g answers show answer is holds = of_beside (detour_of words.detour (length g)) words.second g answers show answer is holds
 
 of_rows : (order_alone : Bool) (span : Option Span) (g : Adjacency) (answers : Show → Answer → Type 0) (show : Show) (answer : Answer)
-    → AreRows order_alone span g show → answers show answer → AnswersRows order_alone span g answers answer
+    → IsPlanned order_alone span g show → answers show answer → AnswersPlanned order_alone span g answers answer
 of_rows true span g answers show answer same holds = subst (λ (s : Show). answers s answer) same holds
 of_rows false None g answers show answer same holds = subst (λ (s : Show). answers s answer) same holds
 of_rows false (Some span) g answers show answer (are, same) holds =
@@ -160,7 +160,7 @@ refuses_within true span g answers line refuses = absurd refuses
 refuses_within false span g answers line refuses = refuses
 
 refuses_rows : (order_alone : Bool) (span : Option Span) (g : Adjacency) (answers : Show → Answer → Type 0) (line : List ℕ)
-    → RefusesRows order_alone span g line → AnswersRows order_alone span g answers (Refused line)
+    → RefusesPlanned order_alone span g line → AnswersPlanned order_alone span g answers (Refused line)
 refuses_rows true span g answers line refuses = absurd refuses
 refuses_rows false None g answers line refuses = absurd refuses
 refuses_rows false (Some span) g answers line refuses = refuses_within (are_nodes span g) span g answers line refuses

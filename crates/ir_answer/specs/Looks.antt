@@ -151,10 +151,10 @@ AnswersWithin true span g answers answer = answers (Nodes span.first span.last) 
 AnswersWithin false span g answers answer = answer ≡ Refused (opening_line (no_root g))
 
 -- the same where the order of the labels is asked for, or all rows are
-abbrev pub AnswersRows : Bool → Option Span → Adjacency → (Show → Answer → Type 0) → Answer → Type 0
-AnswersRows true span g answers = answers Order
-AnswersRows false None g answers = answers Rows
-AnswersRows false (Some span) g answers = AnswersWithin (are_nodes span g) span g answers
+abbrev pub AnswersPlanned : Bool → Option Span → Adjacency → (Show → Answer → Type 0) → Answer → Type 0
+AnswersPlanned true span g answers = answers Order
+AnswersPlanned false None g answers = answers Rows
+AnswersPlanned false (Some span) g answers = AnswersWithin (are_nodes span g) span g answers
 
 -- what `xdp` shows: the lines of a node's row, as text or as bytes
 abbrev pub lines_shown : Words → ℕ → Show
@@ -171,7 +171,7 @@ ShowsPlan sub = Unit {0}
 -- The answer to a graph, by what is asked for: the refusal of an end or a second root that is no node, or else an answer to
 -- what is to be shown. Of the subcommands that show no plan there is none.
 abbrev pub AnswersAsked : Sub → Words → Adjacency → (Show → Answer → Type 0) → Answer → Type 0
-AnswersAsked Planning words g answers = AnswersRows words.order_alone words.nodes g answers
+AnswersAsked Planning words g answers = AnswersPlanned words.order_alone words.nodes g answers
 AnswersAsked Walk words g answers = AnswersEnds g (from_name words) (to_name words) (λ a b. answers (Between a b))
 AnswersAsked Stats words g answers = AnswersFigures words.each words g answers
 AnswersAsked Draw words g answers = AnswersDrawn (drawn_name words) words.svg (from_name words) (to_name words) g answers
@@ -223,10 +223,10 @@ IsLabelling words None g labels = (root : ℕ) × IsNode g (root_name words) roo
 IsLabelling words (Some order) g labels = (places : List ℕ) × IsOrder (names g) (lines order) places × (labels ≡ ByList places)
 
 -- the rows that the words ask for, or the order of the labels
-abbrev pub AreRows : Bool → Option Span → Adjacency → Show → Type 0
-AreRows true span g show = show ≡ Order
-AreRows false None g show = show ≡ Rows
-AreRows false (Some span) g show = (are_nodes span g ≡ true) × (show ≡ Nodes span.first span.last)
+abbrev pub IsPlanned : Bool → Option Span → Adjacency → Show → Type 0
+IsPlanned true span g show = show ≡ Order
+IsPlanned false None g show = show ≡ Rows
+IsPlanned false (Some span) g show = (are_nodes span g ≡ true) × (show ≡ Nodes span.first span.last)
 
 -- the figures, beside those of a second plan if there is one
 abbrev pub AreBeside : Detour → Option Second → Adjacency → Show → Type 0
@@ -256,7 +256,7 @@ IsDrawn words g show = IsOneDrawn (drawn_name words) words.svg (from_name words)
 
 -- what the words ask to be shown
 abbrev pub IsShow : Sub → Words → Adjacency → Show → Type 0
-IsShow Planning words g show = AreRows words.order_alone words.nodes g show
+IsShow Planning words g show = IsPlanned words.order_alone words.nodes g show
 IsShow Walk words g show = (a b : ℕ) × IsNode g (from_name words) a × IsNode g (to_name words) b × (show ≡ Between a b)
 IsShow Stats words g show = AreShown words.each words g show
 IsShow Draw words g show = IsDrawn words g show
@@ -272,8 +272,8 @@ IsShow Check words g show = ⊥
 abbrev pub RefusesLabels : Words → Option (List ℕ) → Adjacency → List ℕ → Type 0
 RefusesLabels words order g line = AnswersLabels words order g (λ labels answer. ⊥) (Refused line)
 
-abbrev pub RefusesRows : Bool → Option Span → Adjacency → List ℕ → Type 0
-RefusesRows order_alone span g line = AnswersRows order_alone span g (λ show answer. ⊥) (Refused line)
+abbrev pub RefusesPlanned : Bool → Option Span → Adjacency → List ℕ → Type 0
+RefusesPlanned order_alone span g line = AnswersPlanned order_alone span g (λ show answer. ⊥) (Refused line)
 
 abbrev pub RefusesEnds : Adjacency → Option Name → Option Name → List ℕ → Type 0
 RefusesEnds g from to line = AnswersEnds g from to (λ a b answer. ⊥) (Refused line)

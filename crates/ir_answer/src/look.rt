@@ -2,7 +2,7 @@
 ghost use Rattle.std.specs.Prelude.{◌≡◌, ◌≢◌, ◌<◌, ◌≤◌, ℕ, true, IfOk, IfErr, IfSome, IsSome, length, string_bytes};
 ghost use Rattle.ir_model.specs.{Graph.names, Topology.node_count};
 ghost use Rattle.ir_answer.specs.Asked.{look_sources};
-ghost use Rattle.ir_answer.specs.Looks.{from_name, to_name, circle_text, AnswersShow, AreAmong, AreTexts, Says, AnswerShows, order_in, IsNode, IsLabelling, AreShown, IsDrawn, IsShow, IsText, lines_shown, order_again, RefusesLabels, RefusesEnds, RefusesFigures, RefusesDrawn, RefusesShow, ShowsPlan, LookAnswers, IsFiguresBeside, AreRows, RefusesRows};
+ghost use Rattle.ir_answer.specs.Looks.{from_name, to_name, circle_text, AnswersShow, AreAmong, AreTexts, Says, AnswerShows, order_in, IsNode, IsLabelling, AreShown, IsDrawn, IsShow, IsText, lines_shown, order_again, RefusesLabels, RefusesEnds, RefusesFigures, RefusesDrawn, RefusesShow, ShowsPlan, LookAnswers, IsFiguresBeside, IsPlanned, RefusesPlanned};
 ghost use Rattle.ir_answer.specs.Stops.{StopsAs, Gives};
 ghost use Rattle.ir_cli.specs.Answer.{Refused};
 ghost use Rattle.ir_model.specs.OfGraph.{topology_of_graph};
@@ -289,9 +289,9 @@ fn read_drawing(words: &Words, graph: &Graph) -> Result<Show, AnswerStop>
 
 /// The order of the labels, the rows of the nodes that the words ask for, or all rows.
 fn read_rows(words: &Words, graph: &Graph) -> Result<Show, AnswerStop>
-    ensures show { IfOk result (λ show. AreRows words.now.order_alone words.now.nodes graph.now show) }
+    ensures show { IfOk result (λ show. IsPlanned words.now.order_alone words.now.nodes graph.now show) }
     ensures among { IfOk result (λ show. 0 < length graph.now → AreAmong (length graph.now) show) }
-    ensures stop { IfErr result (λ s. StopsAs s (RefusesRows words.now.order_alone words.now.nodes graph.now)) }
+    ensures stop { IfErr result (λ s. StopsAs s (RefusesPlanned words.now.order_alone words.now.nodes graph.now)) }
 {
     if words.order_alone {
         return Ok(Show::Order);
@@ -390,7 +390,7 @@ fn span_alone(show: Show, kind: Kind, nodes: usize, labels: &Labels) -> Option<(
     let Show::Nodes(first, last) = show else {
         return None;
     };
-    if !is_of_shortest_ways(kind) || !needs_no_tour(nodes, labels) {
+    if !needs_no_tour(nodes, labels) || !is_of_shortest_ways(kind) {
         return None;
     }
     Some((first, last))
