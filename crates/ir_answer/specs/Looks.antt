@@ -7,7 +7,7 @@ use Rattle.std.specs.Borrow.{Bor}
 use Rattle.ir_model.specs.Graph.{Name, Adjacency, names}
 use Rattle.ir_model.specs.Text.{lines}
 use Rattle.ir_show.specs.PlanText.{plan_text}
-use Rattle.ir_show.specs.SpanText.{span_text}
+use Rattle.ir_show.specs.SpanText.{text_of_span}
 use Rattle.ir_show.specs.WalkText.{IsWalkOf}
 use Rattle.ir_figures.specs.FiguresText.{AreFiguresOf, AreFiguresBeside}
 use Rattle.ir_figures.specs.Failures.{AreLinkFailures}
@@ -95,7 +95,7 @@ circle_text is_svg nodes plan u = if is_svg then circle_svg nodes plan u else ci
 -- what a text of a plan says, by what is shown
 abbrev pub Says : Show → List Name → Plan → List ℕ → Type 0
 Says Rows nodes plan text = text ≡ plan_text nodes plan
-Says (Nodes first last) nodes plan text = text ≡ span_text nodes plan first last
+Says (Nodes first last) nodes plan text = text ≡ text_of_span nodes plan first last
 Says (Between a b) nodes plan text = IsWalkOf nodes plan a b text
 Says Figures nodes plan text = AreFiguresOf nodes plan text
 Says (Beside kind root) nodes plan text = IsFiguresBeside kind root nodes plan text

@@ -17,8 +17,8 @@ use Rattle.ir_plan.specs.Starts.{IsOfShortestWays}
 use Rattle.ir_trace.specs.Rows.{spaced}
 use Rattle.ir_show.specs.Plans.{IsPlanOver}
 use Rattle.ir_show.specs.PlanText.{node_words}
-use Rattle.ir_show.specs.SpanLines.{AreItsPorts, AreSpanLines, row_words, start_at}
-use Rattle.ir_show.specs.SpanText.{span_lines, span_starts, span_text, span_words}
+use Rattle.ir_show.specs.SpanLines.{AreItsPorts, AreSpanLines, words_of_row, start_at}
+use Rattle.ir_show.specs.SpanText.{span_lines, span_starts, text_of_span, span_words}
 use Rattle.ir_show.specs.Words.{line_text}
 use Rattle.ir_show.specs.declared.span.SpanLines.{SpanLines}
 use Rattle.ir_show.proofs.PlanLines.{block_more, leads, range_more, start_within, starts_more}
@@ -73,11 +73,11 @@ module _ (net : Topology) (kind : Kind) (other : IsOfShortestWays kind) (numbers
       (subst (AreItsPorts s.topology u) (sym same) (its_ports s is.valid u in_plan))
 
   -- its line is that of the plan
-  pub alone_words : (nodes : List Name) (label : ℕ) → label ≡ slice_index numbers.labels u → row_words nodes net u label row ≡ node_words nodes s u
+  pub alone_words : (nodes : List Name) (label : ℕ) → label ≡ slice_index numbers.labels u → words_of_row nodes net u label row ≡ node_words nodes s u
   alone_words nodes label e =
-      ap (λ (over : Topology). row_words nodes over u label row) (sym is.over)
-      ∙ ap (λ (l : ℕ). row_words nodes s.topology u l row) (e ∙ ap (λ (ls : List ℕ). slice_index ls u) (sym is.labels))
-      ∙ ap (λ (r : List Start). row_words nodes s.topology u (label_in s u) r) same
+      ap (λ (over : Topology). words_of_row nodes over u label row) (sym is.over)
+      ∙ ap (λ (l : ℕ). words_of_row nodes s.topology u l row) (e ∙ ap (λ (ls : List ℕ). slice_index ls u) (sym is.labels))
+      ∙ ap (λ (r : List Start). words_of_row nodes s.topology u (label_in s u) r) same
 
   pub alone_starts : length row ≡ length (row_in s u)
   alone_starts = ap length same
@@ -120,7 +120,7 @@ all_lines nodes s first last u lines end so = record {
 
 -- with the first line they are the text
 pub span_whole : (nodes : List Name) (s : Plan) (kind : Kind) (count first last : ℕ) (lines : SpanLines) → kind ≡ s.kind → count ≡ node_count s.topology → AreSpanLines nodes s first last lines
-    → line_text (span_words kind count lines.starts first last) ++ string_bytes lines.text ≡ span_text nodes s first last
+    → line_text (span_words kind count lines.starts first last) ++ string_bytes lines.text ≡ text_of_span nodes s first last
 span_whole nodes s kind count first last lines same all are =
     ap (λ (k : Kind). line_text (span_words k count lines.starts first last) ++ string_bytes lines.text) same
     ∙ ap (λ (n : ℕ). line_text (span_words s.kind n lines.starts first last) ++ string_bytes lines.text) all

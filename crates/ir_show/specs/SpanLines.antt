@@ -18,8 +18,8 @@ abbrev pub AreItsPorts : Topology → ℕ → List Start → Type 0
 AreItsPorts topology u row = (i : ℕ) → i < length row → (start_at row i).port < length (ports_of topology u)
 
 -- a node's name, its label, and its row
-abbrev pub row_words : List Name → Topology → ℕ → ℕ → List Start → List (List ℕ)
-row_words nodes topology u label row = name_at nodes u ∷ decimal label ∷ flat_map (start_words nodes topology u) row
+abbrev pub words_of_row : List Name → Topology → ℕ → ℕ → List Start → List (List ℕ)
+words_of_row nodes topology u label row = name_at nodes u ∷ decimal label ∷ flat_map (start_words nodes topology u) row
 
 -- the lines of these nodes, and how many starts they have
 pub record AreSpanLines (nodes : List Name) (plan : Plan) (first last : ℕ) (lines : SpanLines) : Type 0 where

@@ -27,12 +27,12 @@ abbrev pub span_lines : List Name → Plan → ℕ → ℕ → List ℕ
 span_lines nodes plan first last = flat_map (λ u. line_text (node_words nodes plan u)) (span_nodes first last)
 
 -- the first line, with the starts of these nodes alone, and their lines
-abbrev pub span_text : List Name → Plan → ℕ → ℕ → List ℕ
-span_text nodes plan first last =
+abbrev pub text_of_span : List Name → Plan → ℕ → ℕ → List ℕ
+text_of_span nodes plan first last =
     line_text (span_words plan.kind (node_count plan.topology) (span_starts plan first last) first last) ++ span_lines nodes plan first last
 
 -- The text is that of these nodes in a plan of a kind and these labels over the network.
 pub record IsSpanOfPlan (nodes : List Name) (topology : Topology) (kind : Kind) (labels : Labelling) (first last : ℕ) (text : List ℕ) : Type 0 where
   pub plan : Plan
   pub built : IsPlanBy topology kind labels plan
-  pub whole : text ≡ span_text nodes plan first last
+  pub whole : text ≡ text_of_span nodes plan first last

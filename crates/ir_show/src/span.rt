@@ -4,8 +4,8 @@ ghost use Rattle.ir_model.specs.{Graph.names, Topology.{node_count, ports_of}, W
 ghost use Rattle.ir_plan.specs.{Building.{MayLabel, RefusesPlan, labelling_of}, Starts.IsOfShortestWays};
 ghost use Rattle.ir_trace.specs.Rows.{spaced};
 ghost use Rattle.ir_show.specs.{PlanText.start_words, Plans.{IsPlanOver, NeedsNoTour}, Words.line_text};
-ghost use Rattle.ir_show.specs.SpanLines.{AreItsPorts, AreSpanLines, row_words, start_at};
-ghost use Rattle.ir_show.specs.SpanText.{IsSpanOfPlan, span_text, span_words};
+ghost use Rattle.ir_show.specs.SpanLines.{AreItsPorts, AreSpanLines, words_of_row, start_at};
+ghost use Rattle.ir_show.specs.SpanText.{IsSpanOfPlan, text_of_span, span_words};
 
 use crate::TextResult;
 use crate::alone::numbers_by;
@@ -81,7 +81,7 @@ fn push_line(
     requires node { u < length graph.now }
     requires ports { AreItsPorts topology.now u row.now }
     ensures { OnOk result (string_bytes text.new ≡ string_bytes text.old
-        ++ line_text (row_words (names graph.now) topology.now u label row.now)) }
+        ++ line_text (words_of_row (names graph.now) topology.now u label row.now)) }
 {
     text.push_str(name_of(graph, u))?;
     push_next_number(text, label as usize)?;
@@ -181,7 +181,7 @@ pub fn span_text(
     requires nodes { node_count plan.now.topology ≡ length graph.now }
     requires within { span.1 < length graph.now }
     requires order { span.0 ≤ span.1 }
-    ensures { IfOk result (λ text. string_bytes text ≡ span_text (names graph.now) plan.now span.0 span.1) }
+    ensures { IfOk result (λ text. string_bytes text ≡ text_of_span (names graph.now) plan.now span.0 span.1) }
 {
     let (first, last) = (span.0 as usize, span.1 as usize);
     let lines = lines_of(alloc, graph, plan, first, last)?;

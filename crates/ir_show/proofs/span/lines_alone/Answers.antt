@@ -2,7 +2,7 @@ use Rattle.std.proofs.Common.{◌≡◌, ◌∙◌, ◌+◌, ◌<◌, ◌≤◌,
 use Rattle.ir_model.specs.Graph.{names}
 use Rattle.ir_model.specs.Topology.{Topology, node_count}
 use Rattle.ir_model.specs.Row.{Start}
-use Rattle.ir_show.specs.SpanLines.{AreItsPorts, row_words}
+use Rattle.ir_show.specs.SpanLines.{AreItsPorts, words_of_row}
 use Rattle.ir_show.specs.Words.{line_text}
 use Rattle.ir_show.proofs.Plans.{plan_some}
 use Rattle.ir_show.proofs.Spans.{all_lines, alone_few, alone_ports, alone_starts, alone_words, none_so_far, one_more}
@@ -49,7 +49,7 @@ loop-u-preserved c =
     let so_far = c.loop-u.invariant.few in
     record {
       so = λ plan is. one_more nodes plan c.args.span.0 u _ _ (omega arith) (c.loop-u.invariant.so plan is)
-          (line_text (row_words nodes net u c.label_of-label.result row)) _ c.len-starts.result
+          (line_text (words_of_row nodes net u c.label_of-label.result row)) _ c.len-starts.result
           (ap line_text (alone_words net c.args.kind c.requires.kind numbers plan is u u_in row c.in_ok-row.ensures nodes c.label_of-label.result c.label_of-label.ensures)) c.in_ok-push_line.ensures
           (c.len-starts.ensures.len ∙ alone_starts net c.args.kind c.requires.kind numbers plan is u u_in row c.in_ok-row.ensures);
       few = omega (arith, few, least, so_far, c.len-starts.ensures.len);

@@ -3,7 +3,7 @@ use Rattle.ir_model.specs.Graph.{names}
 use Rattle.ir_model.specs.Topology.{Topology, node_count}
 use Rattle.ir_model.specs.Plan.{row_in}
 use Rattle.ir_model.specs.Row.{Start}
-use Rattle.ir_show.specs.SpanLines.{AreItsPorts, row_words}
+use Rattle.ir_show.specs.SpanLines.{AreItsPorts, words_of_row}
 use Rattle.ir_show.specs.Words.{line_text}
 use Rattle.ir_show.proofs.Spans.{all_lines, its_ports, none_so_far, one_more, row_few}
 use Rattle.ir_show.proofs.span.lines_of.Goals as goal
@@ -43,13 +43,13 @@ loop-u-preserved c =
     let least = c.invariant.ensures.plan.topology.few_nodes in
     let so_far = c.loop-u.invariant.few in
     let row = ap (λ (r : List Start). length r) c.row-row.ensures.row in
-    let words : row_words nodes c.topology.result.now u c.label_of-label.result c.row-row.result.now ≡ row_words nodes s.topology u c.label_of-label.result (row_in s u) =
-    ap (λ (t : Topology). row_words nodes t u c.label_of-label.result c.row-row.result.now) c.topology.ensures
-    ∙ ap (λ (r : List Start). row_words nodes s.topology u c.label_of-label.result r) c.row-row.ensures.row in
+    let words : words_of_row nodes c.topology.result.now u c.label_of-label.result c.row-row.result.now ≡ words_of_row nodes s.topology u c.label_of-label.result (row_in s u) =
+    ap (λ (t : Topology). words_of_row nodes t u c.label_of-label.result c.row-row.result.now) c.topology.ensures
+    ∙ ap (λ (r : List Start). words_of_row nodes s.topology u c.label_of-label.result r) c.row-row.ensures.row in
     record {
       so = one_more nodes s c.args.first u _ _ (omega arith) c.loop-u.invariant.so
-          (line_text (row_words nodes c.topology.result.now u c.label_of-label.result c.row-row.result.now)) _ c.len-starts.result
-          (ap line_text (words ∙ ap (λ (l : ℕ). row_words nodes s.topology u l (row_in s u)) c.label_of-label.ensures)) c.in_ok-push_line.ensures
+          (line_text (words_of_row nodes c.topology.result.now u c.label_of-label.result c.row-row.result.now)) _ c.len-starts.result
+          (ap line_text (words ∙ ap (λ (l : ℕ). words_of_row nodes s.topology u l (row_in s u)) c.label_of-label.ensures)) c.in_ok-push_line.ensures
           (c.len-starts.ensures.len ∙ row);
       few = omega (arith, few, least, so_far, row, c.len-starts.ensures.len);
     }
