@@ -1,5 +1,5 @@
 -- What the texts of a topology and of a script, and the name of a root, come to before a run is opened over them.
-use Rattle.std.specs.Prelude.{◌≡◌, ℕ, length, List, Option, None, Some, Result, Ok, Err, MatchResult}
+use Rattle.std.specs.Prelude.{◌≡◌, ℕ, length, List, Option, None, Some, Result, Ok, MatchResult}
 use Rattle.ir_model.specs.declared.Detour.{Detour}
 use Rattle.ir_model.specs.Graph.{Name, Adjacency, names}
 use Rattle.ir_model.specs.Topology.{Topology}

@@ -1,11 +1,9 @@
-use Rattle.std.proofs.Common.{List, ℕ, Ok, Err, IfOk, IfErr, inr, sym, subst, Result}
+use Rattle.std.proofs.Common.{Ok, Err, inr, sym, subst, Result}
 use Rattle.ir_model.specs.Topology.{Topology}
-use Rattle.ir_model.specs.OfGraph.{topology_of_graph}
 use Rattle.ir_trace.specs.declared.finding.Finding.{Finding}
 use Rattle.ir_trace.specs.Checked.{Finds}
 use Rattle.ir_trace.specs.Sound.{IsSoundTrace}
 use Rattle.ir_trace.proofs.CheckedTrace.{sound_from, finding_from}
-use Rattle.ir_cli.specs.Answer.{Answer}
 use Rattle.ir_answer.specs.Checks.{IsFinding, AnswersRows, AnswersTraceAsked, run_with}
 use Rattle.ir_answer.proofs.Answering.{gives_more}
 use Rattle.ir_answer.proofs.Replays.{of_rows, of_finding}

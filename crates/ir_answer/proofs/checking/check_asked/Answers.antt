@@ -1,6 +1,6 @@
 use Rattle.std.proofs.Common.{◌≡◌, ◌∙◌, List, None, ap, sym, subst}
 use Rattle.ir_model.specs.Plan.{Plan}
-use Rattle.ir_model.specs.Topology.{Topology, node_count}
+use Rattle.ir_model.specs.Topology.{Topology}
 use Rattle.ir_model.specs.OfGraph.{topology_of_graph}
 use Rattle.ir_core.specs.declared.event.Step.{Step}
 use Rattle.ir_core.specs.declared.built.Install.{Install}
@@ -8,7 +8,6 @@ use Rattle.ir_core.specs.declared.opening.Opening.{Opening}
 use Rattle.ir_core.specs.Opened.{open_refused}
 use Rattle.ir_core.specs.Installed as core
 use Rattle.ir_trace.specs.Checked.{ArePlansOf}
-use Rattle.ir_trace.specs.Inspect.{AreOver}
 use Rattle.ir_trace.proofs.CheckedTrace.{over_from}
 use Rattle.ir_trace.proofs.Replayed.{replayed_plans}
 use Rattle.ir_cli.specs.Openings.{opening_by}

@@ -1,4 +1,4 @@
-use Rattle.std.proofs.Common.{◌≡◌, ℕ, List, sym, subst}
+use Rattle.std.proofs.Common.{sym, subst}
 use Rattle.ir_model.specs.Text.{lines}
 use Rattle.ir_cli.specs.Openings.{AnswersTopology}
 use Rattle.ir_cli.specs.Reading.{texts_of}

@@ -1,4 +1,4 @@
-use Rattle.std.proofs.Common.{◌≡◌, ℕ, List, Option, refl, sym, subst}
+use Rattle.std.proofs.Common.{ℕ, List, Option, refl, sym, subst}
 use Rattle.std.specs.Global.{Vec}
 use Rattle.ir_cli.specs.declared.notice.Notice.{Notice}
 use Rattle.ir_cli.specs.declared.read.Source.{Source}

@@ -1,4 +1,4 @@
-use Rattle.std.proofs.Common.{◌≡◌, Option, subst}
+use Rattle.std.proofs.Common.{Option, subst}
 use Rattle.ir_json.specs.declared.shape.Shape.{Shape}
 use Rattle.ir_cli.specs.Notices.{ShowsFound}
 use Rattle.ir_cli.specs.Reading.{texts_of}
