@@ -10,12 +10,13 @@ The calls are `plan`, `compile_many`, `walk`, `stats`, `prefixes`, `ranges`, `dr
 plays networks that change in time, and `figures` draws.
 """
 from . import figures as figures  # noqa: F401
-from .calls import check, compile_many, draw, live, names_of, plan, prefixes, ranges, simulate, stats, walk
+from .calls import check, compile_many, draw, link_failures, live, names_of, plan, prefixes, ranges, simulate, stats, walk
 from .diffs import NodeDiff, PlanDiff, diff, patched
 from .errors import (
     BentzoluError, DirectedGraphError, FailureError, FormatError, GraphError, MissingPackageError, MultigraphError,
     ProgramNotFoundError, ResultsError, RouteError, StepError, SweepError, TopologyWarning, UnknownNodeError, WeightError,
 )
+from .failing import LinkFailure, LinkFailures, LinkFigures, read_link_failures
 from .graphs import scaled
 from .label_ranges import Range, check_ranges, read_ranges
 from .names import Names
@@ -41,5 +42,6 @@ __all__ = [
     "simulate", "stats", "walk", "write_trace",
     # what if: sweeps, changes between plans, networks in time
     "FailureError", "FailureRow", "MissingPackageError", "NodeDiff", "PlanDiff", "Relabeller", "ResultsError", "Shell", "Sweep",
-    "SweepError", "Timeline", "diff", "patched", "read_sweep", "sweep",
+    "SweepError", "Timeline", "diff", "patched", "read_sweep", "sweep", "LinkFailure", "LinkFailures", "LinkFigures", "link_failures",
+    "read_link_failures",
 ]

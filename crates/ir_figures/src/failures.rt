@@ -6,7 +6,7 @@ ghost use Rattle.ir_plan.specs.Building.{IsPlanBy, labelling_of};
 ghost use Rattle.ir_trace.specs.Rows.{spaced};
 ghost use Rattle.ir_show.specs.Words.{line_text};
 ghost use Rattle.ir_figures.specs.Failures.{all_but, without_link, labelling_kept, labelling_left, links_head, AreFigureWords, AreWordsOf, IsLinkLine, AreLinkFailures};
-ghost use Rattle.ir_figures.specs.Made.{bytes_of};
+ghost use Rattle.ir_figures.specs.Made.{bytes_made};
 
 use crate::bits::bits_of;
 use crate::compared::{push_counts, push_stretches, ring_word};
@@ -139,7 +139,7 @@ fn link_line(
 ) -> Result<NodeText, AllocError>
     requires nodes { node_count plan.now.topology ≡ length graph.now }
     requires link { l < length plan.now.topology.links }
-    ensures { IfOk result (λ made. IsLinkLine (names graph.now) plan.now order l (bytes_of made)) }
+    ensures { IfOk result (λ made. IsLinkLine (names graph.now) plan.now order l (bytes_made made)) }
 {
     plan.invariant();
     let (low, high) = plan.topology().ends(l as u16);
@@ -160,7 +160,7 @@ fn lines_by(
     order: Option<LabelOrder>,
 ) -> Result<Vec<NodeText>, AllocError>
     requires { node_count plan.now.topology ≡ length graph.now }
-    ensures { IfOk result (λ made. AllZip (λ l one. IsLinkLine (names graph.now) plan.now order l (bytes_of one))
+    ensures { IfOk result (λ made. AllZip (λ l one. IsLinkLine (names graph.now) plan.now order l (bytes_made one))
         (range_with_len 0 (length plan.now.topology.links)) made.items) }
 {
     crew.node_texts(
@@ -170,14 +170,14 @@ fn lines_by(
         &|l: usize| -> Result<NodeText, AllocError>
             requires { (l < length plan.now.topology.links) × (node_count plan.now.topology ≡ length graph.now) }
             ensures { IfOk result (λ made. IsLinkLine (names graph.entry.now) plan.entry.now order l
-                (bytes_of made)) }
+                (bytes_made made)) }
         { link_line(alloc, graph, plan, order, l) },
     )
 }
 
 /// Writes texts one after the other.
 fn push_texts(text: &mut String, made: &[NodeText]) -> TextResult
-    ensures { OnOk result (string_bytes text.new ≡ string_bytes text.old ++ flat_map bytes_of made.now) }
+    ensures { OnOk result (string_bytes text.new ≡ string_bytes text.old ++ flat_map bytes_made made.now) }
 {
     for one in made {
         text.push_str(one.text.as_str())?;
