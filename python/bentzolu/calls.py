@@ -18,6 +18,7 @@ from typing import Any, Iterable, Mapping, Sequence
 
 from . import drawing, program as programs, texts
 from .errors import GraphError
+from .failing import LinkFailures, read_link_failures
 from .label_ranges import Range, read_ranges
 from .options import Options, chosen, detour_words
 from .sources import Topology, read_text, script_of, topology_of
@@ -266,6 +267,36 @@ def compare(graph: Network, root: Any = None, *, options: Options | None = None,
     said = programs.run(asked_for, [("topology", topology.text)], given.program, given.timeout, names=topology.names)
     topology.warn(said.notes(), 3)
     return texts.read_comparison(said.output)
+
+
+def link_failures(graph: Network, kind: str | None = None, root: Any = None, *, options: Options | None = None, **named: Any) -> LinkFailures:
+    """The figures of the graph's plan, and of the plan without each link: all made by one call of the program.
+
+    Parameters
+    ----------
+    graph, kind, root, options, **named
+        As for `plan`.
+
+    Returns
+    -------
+    LinkFailures
+        With `intact` and `failures`, each with its `link` and its `figures`, which are None where nodes are cut off.
+
+    Raises
+    ------
+    RouteError
+        As for `plan`.
+
+    Examples
+    --------
+    >>> import bentzolu
+    >>> found = bentzolu.link_failures([("a", "b"), ("b", "c"), ("c", "a"), ("c", "d")])
+    >>> [(failure.link, failure.figures and failure.figures.bits) for failure in found.failures]
+    [(('a', 'b'), 18), (('a', 'c'), 16), (('b', 'c'), 16), (('c', 'd'), None)]
+    """
+    given = chosen(options, named, kind=kind, root=root)
+    output, names = asked("stats", graph, chosen(given, {"words": [*given.words, "--each", "links"]}))
+    return read_link_failures(output, names)
 
 
 def prefixes(

@@ -22,7 +22,7 @@ use Rattle.ir_trace.specs.Rows.{spaced}
 use Rattle.ir_trace.proofs.WrittenRows.{join_spaced}
 use Rattle.ir_show.specs.Words.{line_text}
 use Rattle.ir_figures.specs.Failures.{all_but, labelling_kept, labelling_left, without_link}
-use Rattle.ir_figures.specs.Made.{bytes_of}
+use Rattle.ir_figures.specs.Made.{bytes_made}
 
 -- ---- words
 
@@ -75,15 +75,15 @@ texts_made P u (suc k) [] zipped = zipped
 texts_made P u (suc k) (one ∷ made) zipped = (zipped.0, texts_made P (u + 1) k made zipped.1)
 
 -- what holds of texts holds of their bytes
-pub bytes_zipped : (P : ℕ → List ℕ → Type 0) (us : List ℕ) (made : List NodeText) → AllZip (λ l one. P l (bytes_of one)) us made → AllZip P us (map bytes_of made)
+pub bytes_zipped : (P : ℕ → List ℕ → Type 0) (us : List ℕ) (made : List NodeText) → AllZip (λ l one. P l (bytes_made one)) us made → AllZip P us (map bytes_made made)
 bytes_zipped P [] [] zipped = zipped
 bytes_zipped P [] (one ∷ made) zipped = zipped
 bytes_zipped P (u ∷ us) [] zipped = zipped
 bytes_zipped P (u ∷ us) (one ∷ made) zipped = (zipped.0, bytes_zipped P us made zipped.1)
 
-pub bytes_joined : (made : List NodeText) → flat_map bytes_of made ≡ flat_map (λ (line : List ℕ). line) (map bytes_of made)
+pub bytes_joined : (made : List NodeText) → flat_map bytes_made made ≡ flat_map (λ (line : List ℕ). line) (map bytes_made made)
 bytes_joined [] = refl
-bytes_joined (one ∷ made) = ap (λ (t : List ℕ). bytes_of one ++ t) (bytes_joined made)
+bytes_joined (one ∷ made) = ap (λ (t : List ℕ). bytes_made one ++ t) (bytes_joined made)
 
 -- ---- what is left of a network
 

@@ -15,3 +15,4 @@ pub mod ClosedRings
 pub mod Start
 pub mod Steps
 pub mod FailureLines
+pub mod FarAway

@@ -9,6 +9,7 @@ pub mod Arcs
 -- what bodies use
 pub mod Exits
 pub mod Columns
+pub mod Far
 pub mod Made
 pub mod Sought
 pub mod Search

@@ -3,5 +3,5 @@ use Rattle.std.specs.Prelude.{ℕ, List, string_bytes}
 use Rattle.ir_plan.specs.declared.crew.NodeText.{NodeText}
 
 -- the bytes of a text
-abbrev pub bytes_of : NodeText → List ℕ
-bytes_of one = string_bytes one.text
+abbrev pub bytes_made : NodeText → List ℕ
+bytes_made one = string_bytes one.text

@@ -6,16 +6,17 @@ ghost use Rattle.ir_plan.specs.Building.{IsPlanBy, labelling_of};
 ghost use Rattle.ir_trace.specs.Rows.{spaced};
 ghost use Rattle.ir_show.specs.Words.{line_text};
 ghost use Rattle.ir_figures.specs.Failures.{all_but, without_link, labelling_kept, labelling_left, links_head, AreFigureWords, AreWordsOf, IsLinkLine, AreLinkFailures};
-ghost use Rattle.ir_figures.specs.Made.{bytes_of};
+ghost use Rattle.ir_figures.specs.Made.{bytes_made};
 
 use crate::bits::bits_of;
 use crate::compared::{push_counts, push_stretches, ring_word};
+use crate::far::quick_figures;
 use crate::waits::waiting_ring;
 use ir_graph::Graph;
 use ir_model::Kind;
 use ir_plan::{Alone, Crew, LabelOrder, Labels, NodeText, Plan, PlanError};
 use ir_show::plan_text::kind_text;
-use ir_show::{TextResult, figures_of, greatest_row};
+use ir_show::{TextResult, greatest_row};
 use ir_trace::text::{name_of, push_name, push_next_number, push_word};
 use std::alloc::{AllocError, Global};
 
@@ -28,7 +29,7 @@ fn push_figures(text: &mut String, alloc: Global, plan: &Plan) -> TextResult
         × (string_bytes text.new ≡ string_bytes text.old ++ flat_map spaced words)) }
 {
     plan.invariant();
-    let figures = figures_of(alloc, plan)?;
+    let figures = quick_figures(alloc, plan)?;
     let ring = waiting_ring(alloc, plan)?;
     let bits = bits_of(plan);
     push_counts(text, plan, greatest_row(plan), bits.rows)?;
@@ -138,7 +139,7 @@ fn link_line(
 ) -> Result<NodeText, AllocError>
     requires nodes { node_count plan.now.topology ≡ length graph.now }
     requires link { l < length plan.now.topology.links }
-    ensures { IfOk result (λ made. IsLinkLine (names graph.now) plan.now order l (bytes_of made)) }
+    ensures { IfOk result (λ made. IsLinkLine (names graph.now) plan.now order l (bytes_made made)) }
 {
     plan.invariant();
     let (low, high) = plan.topology().ends(l as u16);
@@ -159,7 +160,7 @@ fn lines_by(
     order: Option<LabelOrder>,
 ) -> Result<Vec<NodeText>, AllocError>
     requires { node_count plan.now.topology ≡ length graph.now }
-    ensures { IfOk result (λ made. AllZip (λ l one. IsLinkLine (names graph.now) plan.now order l (bytes_of one))
+    ensures { IfOk result (λ made. AllZip (λ l one. IsLinkLine (names graph.now) plan.now order l (bytes_made one))
         (range_with_len 0 (length plan.now.topology.links)) made.items) }
 {
     crew.node_texts(
@@ -169,14 +170,14 @@ fn lines_by(
         &|l: usize| -> Result<NodeText, AllocError>
             requires { (l < length plan.now.topology.links) × (node_count plan.now.topology ≡ length graph.now) }
             ensures { IfOk result (λ made. IsLinkLine (names graph.entry.now) plan.entry.now order l
-                (bytes_of made)) }
+                (bytes_made made)) }
         { link_line(alloc, graph, plan, order, l) },
     )
 }
 
 /// Writes texts one after the other.
 fn push_texts(text: &mut String, made: &[NodeText]) -> TextResult
-    ensures { OnOk result (string_bytes text.new ≡ string_bytes text.old ++ flat_map bytes_of made.now) }
+    ensures { OnOk result (string_bytes text.new ≡ string_bytes text.old ++ flat_map bytes_made made.now) }
 {
     for one in made {
         text.push_str(one.text.as_str())?;
@@ -198,12 +199,13 @@ fn push_head(text: &mut String, alloc: Global, plan: &Plan) -> TextResult
 }
 
 /// The text of the figures of a plan, and behind it a line for each link of its network, with the
-/// figures of the plan without that link: labelled in an order from the plan's root, or, without an
-/// order, with the plan's labels, but a tree always depth first. Where some node then has no walk to some node, the line says so.
-/// The lines are made by a crew, each on one thread, which holds one plan.
+/// figures of the plan without that link. That is labelled in an order from the plan's root, or,
+/// without an order, with the plan's labels, but a tree always depth first. Where some node then has
+/// no walk to some node, the line says so. The lines are made by a crew, each on one thread, which
+/// holds one plan.
 ///
-/// Condition: the plan is over the graph's network. It is refused for memory alone. For each link it takes as long as `Plan::build_by`, `figures_of`
-/// of `ir_show` and `waiting_ring`.
+/// Condition: the plan is over the graph's network. It is refused for memory alone. For each link it
+/// takes as long as `Plan::build_by`, `waiting_ring` and the distances of all pairs.
 pub fn link_failures_text(
     crew: &impl Crew,
     alloc: Global,

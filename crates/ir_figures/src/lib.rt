@@ -7,6 +7,7 @@
 mod bits;
 mod compared;
 mod failures;
+mod far;
 mod laws;
 mod most;
 mod search;

@@ -4,7 +4,7 @@ use Rattle.ir_model.specs.Graph.{names}
 use Rattle.ir_plan.specs.declared.crew.NodeText.{NodeText}
 use Rattle.ir_show.specs.Words.{line_text}
 use Rattle.ir_figures.specs.Failures.{IsLinkLine, links_head}
-use Rattle.ir_figures.specs.Made.{bytes_of}
+use Rattle.ir_figures.specs.Made.{bytes_made}
 use Rattle.ir_figures.proofs.FailureLines.{bytes_joined, bytes_zipped}
 use Rattle.ir_figures.proofs.failures.link_failures_text.Goals as goal
 
@@ -18,12 +18,12 @@ returns g c =
     record {
       words = head.0;
       figures = head.1;
-      lines = map bytes_of made;
+      lines = map bytes_made made;
       each = bytes_zipped (IsLinkLine nodes s c.args.order) (range_with_len 0 (length s.topology.links)) made c.in_ok-lines.ensures;
       whole =
           c.in_ok-push_texts.ensures
-          ∙ ap (λ (texts : List NodeText). before ++ flat_map bytes_of texts) c.as_slice.ensures.value
+          ∙ ap (λ (texts : List NodeText). before ++ flat_map bytes_made texts) c.as_slice.ensures.value
           ∙ ap (λ (t : List ℕ). before ++ t) (bytes_joined made)
-          ∙ ap (λ (t : List ℕ). t ++ flat_map (λ (line : List ℕ). line) (map bytes_of made))
+          ∙ ap (λ (t : List ℕ). t ++ flat_map (λ (line : List ℕ). line) (map bytes_made made))
           (head.2 ∙ ap (λ (t : List ℕ). t ++ line_text (links_head s head.0)) c.new-text.ensures.bytes);
     }

@@ -1,0 +1,92 @@
+"""The figures of a network without each of its links, as `route stats --each links` prints them.
+
+The program makes the plan of each, so no start of it and no text of a plan is paid for a failure. `sweep` tells more of each
+failure, as what changes beside the plan of the whole network.
+"""
+from __future__ import annotations
+
+from fractions import Fraction
+from typing import Any, Hashable, List, NamedTuple, Optional, Tuple
+
+from .errors import FormatError
+from .texts import SAME, NodeNames, headed, number
+
+
+class LinkFigures(NamedTuple):
+    """The figures of a plan.
+
+    `intervals` is the number of intervals of all nodes, `greatest_row` that of the node with the most, `bits` those of all rows.
+    `stretch` is the sum of the walks over that of the distances, and `worst` the greatest stretch of a pair; both are None for a single
+    node. `ring` says whether links can wait for each other in a ring.
+    """
+
+    intervals: int
+    greatest_row: int
+    bits: int
+    stretch: Optional[Fraction]
+    worst: Optional[Fraction]
+    ring: bool
+
+
+class LinkFailure(NamedTuple):
+    """A link that fails, and the figures of the plan for the network without it; None where some node then has no path to some node."""
+
+    link: Tuple[Hashable, Hashable]
+    figures: Optional[LinkFigures]
+
+
+class LinkFailures(NamedTuple):
+    """The kind of the plans, the figures of the whole network's plan, and a `LinkFailure` for each link."""
+
+    kind: str
+    intact: LinkFigures
+    failures: Tuple[LinkFailure, ...]
+
+
+def read_fraction(word: str, line: int) -> Optional[Fraction]:
+    """A fraction `OVER/UNDER`, or None for `-`."""
+    if word == "-":
+        return None
+    over, _, under = word.partition("/")
+    return Fraction(number(over, line), number(under, line))
+
+
+def read_figures(words: List[str], line: int) -> LinkFigures:
+    """The six figures of a line."""
+    if len(words) != 6 or words[5] not in ("acyclic", "cycle"):
+        raise FormatError("a line has six figures, of which the last is 'acyclic' or 'cycle'", line)
+    intervals, greatest_row, bits = (number(word, line) for word in words[:3])
+    return LinkFigures(intervals, greatest_row, bits, read_fraction(words[3], line), read_fraction(words[4], line), words[5] == "cycle")
+
+
+def read_link_failures(text: str, names: NodeNames = SAME) -> LinkFailures:
+    """The figures without each link, of the text that `route stats --each links` prints.
+
+    Parameters
+    ----------
+    text, names
+        As for `read_plan`.
+
+    Returns
+    -------
+    LinkFailures
+
+    Raises
+    ------
+    FormatError, UnknownNodeError
+        As `read_plan`.
+
+    Examples
+    --------
+    >>> found = read_link_failures("each links tree 2 1 2 1 4 8/8 4/4 acyclic\\na b disconnected\\n")
+    >>> found.intact.bits, found.failures
+    (4, (LinkFailure(link=('a', 'b'), figures=None),))
+    """
+    first, lines = headed(text, "each", 11)
+    rows: List[Any] = []
+    for line, words in lines:
+        if len(words) < 3:
+            raise FormatError("a line has the two ends of a link and what is left without it", line)
+        link = (names.node(words[0]), names.node(words[1]))
+        rows.append(LinkFailure(link, None if words[2:] == ["disconnected"] else read_figures(words[2:], line)))
+    return LinkFailures(first[2], read_figures(first[5:], 1), tuple(rows))
