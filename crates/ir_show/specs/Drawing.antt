@@ -32,12 +32,12 @@ begun_by plan u landmark = if nat_le (label_in plan landmark) (label_in plan u) 
 abbrev pub block_of : Plan → List ℕ → ℕ → ℕ
 block_of plan landmarks u = sum_by (begun_by plan u) landmarks
 
-abbrev pub is_landmark : List ℕ → ℕ → Bool
-is_landmark landmarks u = list_any (λ l. l == u) landmarks
+abbrev pub is_in_landmarks : List ℕ → ℕ → Bool
+is_in_landmarks landmarks u = list_any (λ l. l == u) landmarks
 
 -- a landmark is a box
 abbrev pub shape_text : List ℕ → ℕ → List ℕ
-shape_text landmarks u = if is_landmark landmarks u then codes ", shape=box" else []
+shape_text landmarks u = if is_in_landmarks landmarks u then codes ", shape=box" else []
 
 -- each block has one of twelve colours (set312 of ColorBrewer)
 abbrev pub colour_text : ℕ → List ℕ

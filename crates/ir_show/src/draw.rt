@@ -3,7 +3,7 @@ ghost use Rattle.std.specs.Prelude.{◌≡◌, ◌<◌, ◌++◌, [], if◌then�
 ghost use Rattle.std.specs.List.{range_with_len};
 ghost use Rattle.ir_model.specs.{Graph.names, Topology.{node_count, ports_of}, Plan.IsPlan};
 ghost use Rattle.ir_show.specs.{Before.separated, Intervals.as_interval};
-ghost use Rattle.ir_show.specs.Drawing.{ArePlanLandmarks, begun_by, block_of, is_landmark, shape_text, colour_text, node_marks, node_line, interval_text, goes_by, intervals_text, are_ends, passes, edge_style, edge_labels, edge_line, edge_lines, IsBold, IsDrawingOf};
+ghost use Rattle.ir_show.specs.Drawing.{ArePlanLandmarks, begun_by, block_of, is_in_landmarks, shape_text, colour_text, node_marks, node_line, interval_text, goes_by, intervals_text, are_ends, passes, edge_style, edge_labels, edge_line, edge_lines, IsBold, IsDrawingOf};
 
 use crate::TextResult;
 use crate::interval::{Interval, interval_at, push_interval};
@@ -59,8 +59,8 @@ fn block_of(plan: &Plan, landmarks: &[u16], u: u16) -> usize
 }
 
 /// Whether a node is a landmark.
-fn is_landmark(landmarks: &[u16], u: u16) -> bool
-    ensures { result ≡ is_landmark landmarks.now u }
+fn is_in_landmarks(landmarks: &[u16], u: u16) -> bool
+    ensures { result ≡ is_in_landmarks landmarks.now u }
 {
     landmarks.iter().any(|landmark| *landmark == u)
 }
@@ -69,7 +69,7 @@ fn is_landmark(landmarks: &[u16], u: u16) -> bool
 fn shape_text(landmarks: &[u16], u: u16) -> &'static str
     ensures { result.now ≡ shape_text landmarks.now u }
 {
-    if is_landmark(landmarks, u) {
+    if is_in_landmarks(landmarks, u) {
         ", shape=box"
     } else {
         ""

@@ -27,8 +27,8 @@ use Rattle.ir_core.specs.Quiet.{Moves, TakesFromBefore, IsHandEmpty, IsUpToDate,
 use Rattle.ir_core.proofs.Shown.{same_sight}
 use Rattle.ir_core.proofs.Quiets.{act_done_by, take_done_by, TakeDone, read_moves}
 use Rattle.ir_steps.specs.Words.{event_line}
-use Rattle.ir_steps.specs.Drained.{entry_line, lines_of, AreLinesBetween}
-use Rattle.ir_steps.specs.Parts.{HasHistory, IsApplied, Plays, Adds, AddsDrain, added_line}
+use Rattle.ir_steps.specs.Drained.{entry_line, history_lines, AreLinesBetween}
+use Rattle.ir_steps.specs.Parts.{HasHistory, IsApplied, Plays, AddsText, AddsDrain, added_line}
 use Rattle.ir_steps.proofs.Answered.{answer_of}
 
 -- ---- one part after another
@@ -36,22 +36,22 @@ use Rattle.ir_steps.proofs.Answered.{answer_of}
 pub has_then : (f : List Entry → List Entry) (a : Bool) (s mid : World) → HasHistory s → Moves f a s mid → HasHistory mid
 has_then f a s mid has m = (f has.0, m.shows has.0 has.1)
 
-pub adds_none : (nodes : List Name) (net : Topology) (line : ℕ) (s : World) (text : List ℕ) → Adds nodes net line (λ log. log) s text text
-adds_none nodes net line s text = record { text = []; text_is = sym (append-nil text); lines = λ log k. sym (append-nil (lines_of nodes net line log)) }
+pub adds_none : (nodes : List Name) (net : Topology) (line : ℕ) (s : World) (text : List ℕ) → AddsText nodes net line (λ log. log) s text text
+adds_none nodes net line s text = record { text = []; text_is = sym (append-nil text); lines = λ log k. sym (append-nil (history_lines nodes net line log)) }
 
-pub adds_as : (nodes : List Name) (net : Topology) (line : ℕ) (f g : List Entry → List Entry) (s : World) (old now : List ℕ) → ((log : List Entry) → f log ≡ g log) → Adds nodes net line f s old now → Adds nodes net line g s old now
+pub adds_as : (nodes : List Name) (net : Topology) (line : ℕ) (f g : List Entry → List Entry) (s : World) (old now : List ℕ) → ((log : List Entry) → f log ≡ g log) → AddsText nodes net line f s old now → AddsText nodes net line g s old now
 adds_as nodes net line f g s old now same a = record {
   text = a.text;
   text_is = a.text_is;
   lines = λ log k. subst (λ (l : List Entry). AreLinesBetween nodes net line log l a.text) (same log) (a.lines log k);
 }
 
-pub adds_then : (nodes : List Name) (net : Topology) (line : ℕ) (f g : List Entry → List Entry) (s mid : World) (old text now : List ℕ) → Adds nodes net line f s old text →
-    ((log : List Entry) → Shows log s → Shows (f log) mid) → Adds nodes net line g mid text now → Adds nodes net line (λ log. g (f log)) s old now
+pub adds_then : (nodes : List Name) (net : Topology) (line : ℕ) (f g : List Entry → List Entry) (s mid : World) (old text now : List ℕ) → AddsText nodes net line f s old text →
+    ((log : List Entry) → Shows log s → Shows (f log) mid) → AddsText nodes net line g mid text now → AddsText nodes net line (λ log. g (f log)) s old now
 adds_then nodes net line f g s mid old text now a shows b = record {
   text = a.text ++ b.text;
   text_is = b.text_is ∙ ap (λ (t : List ℕ). t ++ b.text) a.text_is ∙ append_assoc old a.text b.text;
-  lines = λ log k. b.lines (f log) (shows log k) ∙ ap (λ (t : List ℕ). t ++ b.text) (a.lines log k) ∙ append_assoc (lines_of nodes net line log) a.text b.text;
+  lines = λ log k. b.lines (f log) (shows log k) ∙ ap (λ (t : List ℕ). t ++ b.text) (a.lines log k) ∙ append_assoc (history_lines nodes net line log) a.text b.text;
 }
 
 -- ---- one event
@@ -69,20 +69,20 @@ module _ (nodes : List Name) (net : Topology) (line : ℕ) where
   pub adds_of : (s new : World) (e : Event) (reply : Result Reply Refused) (w : Result Entry Refused) (f : List Entry → List Entry) (old now : List ℕ) → IsAnswer s new w reply →
       ((log : List Entry) → Shows log s → Shows (f log) new) → ((log : List Entry) → Shows log s → f log ≡ with_entry log w) →
       ((entry : Entry) → w ≡ Ok entry → (log : List Entry) → Shows log s → entry_line nodes net line log entry ≡ event_line nodes net line (λ p. history.packet p (entry ∷ log)) e (Ok (reply_of entry))) →
-      now ≡ old ++ added_line nodes net line new e reply → Adds nodes net line f s old now
+      now ≡ old ++ added_line nodes net line new e reply → AddsText nodes net line f s old now
   adds_of s new e reply w f old now answer shows makes told is = record { text = added_line nodes net line new e reply; text_is = is; lines = λ log k. by_wanted w refl answer log k }
     where
-      by_wanted : (v : Result Entry Refused) → w ≡ v → IsAnswer s new v reply → (log : List Entry) → Shows log s → lines_of nodes net line (f log) ≡ lines_of nodes net line log ++ added_line nodes net line new e reply
+      by_wanted : (v : Result Entry Refused) → w ≡ v → IsAnswer s new v reply → (log : List Entry) → Shows log s → history_lines nodes net line (f log) ≡ history_lines nodes net line log ++ added_line nodes net line new e reply
       by_wanted (Err x) same a log k =
           let here : f log ≡ log = makes log k ∙ ap (λ (v : Result Entry Refused). with_entry log v) same in
-          ap (λ (l : List Entry). lines_of nodes net line l) here ∙ sym (append-nil (lines_of nodes net line log))
-          ∙ ap (λ (r : Result Reply Refused). lines_of nodes net line log ++ added_line nodes net line new e r) (sym a.0)
+          ap (λ (l : List Entry). history_lines nodes net line l) here ∙ sym (append-nil (history_lines nodes net line log))
+          ∙ ap (λ (r : Result Reply Refused). history_lines nodes net line log ++ added_line nodes net line new e r) (sym a.0)
       by_wanted (Ok entry) same a log k =
           let here : f log ≡ entry ∷ log = makes log k ∙ ap (λ (v : Result Entry Refused). with_entry log v) same in
           let there : Shows (entry ∷ log) new = subst (λ (l : List Entry). Shows l new) here (shows log k) in
-          ap (λ (l : List Entry). lines_of nodes net line l) here
-          ∙ ap (λ (t : List ℕ). lines_of nodes net line log ++ t) (told entry same log k ∙ packets_of e (Ok (reply_of entry)) (entry ∷ log) new there)
-          ∙ ap (λ (r : Result Reply Refused). lines_of nodes net line log ++ added_line nodes net line new e r) (sym a.0)
+          ap (λ (l : List Entry). history_lines nodes net line l) here
+          ∙ ap (λ (t : List ℕ). history_lines nodes net line log ++ t) (told entry same log k ∙ packets_of e (Ok (reply_of entry)) (entry ∷ log) new there)
+          ∙ ap (λ (r : Result Reply Refused). history_lines nodes net line log ++ added_line nodes net line new e r) (sym a.0)
 
   -- ---- the entries of an Act, a take and a read
 
@@ -125,12 +125,12 @@ module _ (nodes : List Name) (net : Topology) (line : ℕ) where
 
   -- the version that was read is no line
   read_nothing : (b t : Bool) (u k : ℕ) (log : List Entry) → (history.view u log == k) ≡ true →
-      lines_of nodes net line (with_entry log (read_to b t u k)) ≡ lines_of nodes net line log ++ []
-  read_nothing true t u k log same = sym (append-nil (lines_of nodes net line log))
-  read_nothing false true u k log same = sym (append-nil (lines_of nodes net line log))
+      history_lines nodes net line (with_entry log (read_to b t u k)) ≡ history_lines nodes net line log ++ []
+  read_nothing true t u k log same = sym (append-nil (history_lines nodes net line log))
+  read_nothing false true u k log same = sym (append-nil (history_lines nodes net line log))
   read_nothing false false u k log same =
       let text = event_line nodes net line (λ p. history.packet p (DidRead u k ∷ log)) (event.Read u k) (Ok (reply_of (DidRead u k))) in
-      ap (λ (b : Bool). lines_of nodes net line log ++ (if b then [] else text)) same
+      ap (λ (b : Bool). history_lines nodes net line log ++ (if b then [] else text)) same
 
 equals : (v k : ℕ) → v ≡ k → (v == k) ≡ true
 equals v k e = grind (arith, common_steps)
@@ -155,7 +155,7 @@ module _ (s new : World) (ok : IsWorld s) (has : HasHistory s) (u : ℕ) (u_in :
 
     -- of one that the node has not read
     pub read_adds : (nodes : List Name) (net : Topology) (line : ℕ) (accepted : Bool) (old now : List ℕ) → slice_index s.views u ≢ k → Plays nodes net line (event.Read u k) accepted s new old now →
-        Adds nodes net line (after_read s.opening u) s old now
+        AddsText nodes net line (after_read s.opening u) s old now
     read_adds nodes net line accepted old now other p =
         let answer = read_answer p.reply p.applied in
         adds_of nodes net line s new (event.Read u k) p.reply (reads s.opening (sight_in s) u k) (after_read s.opening u) old now answer
@@ -163,11 +163,11 @@ module _ (s new : World) (ok : IsWorld s) (has : HasHistory s) (u : ℕ) (u_in :
         (λ entry e log shows. read_line nodes net line _ _ u k entry e log (differs (history.view u log) k (λ e. other (shows.view u ∙ e)))) p.text_is
 
     -- of the one that it has read
-    pub read_adds_nothing : (nodes : List Name) (net : Topology) (line : ℕ) (text : List ℕ) → slice_index s.views u ≡ k → Adds nodes net line (after_read s.opening u) s text text
+    pub read_adds_nothing : (nodes : List Name) (net : Topology) (line : ℕ) (text : List ℕ) → slice_index s.views u ≡ k → AddsText nodes net line (after_read s.opening u) s text text
     read_adds_nothing nodes net line text same = record {
       text = [];
       text_is = sym (append-nil text);
-      lines = λ log shows. ap (λ (l : List Entry). lines_of nodes net line l) (read_makes log shows) ∙ read_nothing nodes net line _ _ u k log (equals (history.view u log) k (sym (shows.view u) ∙ same));
+      lines = λ log shows. ap (λ (l : List Entry). history_lines nodes net line l) (read_makes log shows) ∙ read_nothing nodes net line _ _ u k log (equals (history.view u log) k (sym (shows.view u) ∙ same));
     }
 
   -- an Act, by the newest board
@@ -177,7 +177,7 @@ module _ (s new : World) (ok : IsWorld s) (has : HasHistory s) (u : ℕ) (u_in :
         answer_of s new ok has (event.Act u) reply applied (λ (x : Sight). acts s.opening x u) (λ x w h. h) (λ x. refl) (λ x h. h)
         (λ entry is. ((act_done_by s (after s entry) ok u u_in up (Ok (reply_of entry)) (subst (λ (w : Result Entry Refused). IsAnswer s (after s entry) w (Ok (reply_of entry))) (sym is) (refl, refl))).moves.few ok).0)
 
-    pub act_adds : (nodes : List Name) (net : Topology) (line : ℕ) (accepted : Bool) (old now : List ℕ) → Plays nodes net line (event.Act u) accepted s new old now → Adds nodes net line (after_act s.opening u) s old now
+    pub act_adds : (nodes : List Name) (net : Topology) (line : ℕ) (accepted : Bool) (old now : List ℕ) → Plays nodes net line (event.Act u) accepted s new old now → AddsText nodes net line (after_act s.opening u) s old now
     act_adds nodes net line accepted old now p =
         let answer = act_answer p.reply p.applied in
         adds_of nodes net line s new (event.Act u) p.reply (acts s.opening (sight_in s) u) (after_act s.opening u) old now answer
@@ -194,18 +194,18 @@ module _ (s new : World) (ok : IsWorld s) (has : HasHistory s) (u : ℕ) (u_in :
     pub take_done : (reply : Result Reply Refused) → IsApplied (event.Take u way) reply s new → TakeDone s u way new
     take_done reply applied = take_done_by s new ok u way c u_in there empty reply (take_answer reply applied)
 
-    pub take_adds : (nodes : List Name) (net : Topology) (line : ℕ) (accepted : Bool) (old now : List ℕ) → Plays nodes net line (event.Take u way) accepted s new old now → Adds nodes net line (after_take s.opening u way) s old now
+    pub take_adds : (nodes : List Name) (net : Topology) (line : ℕ) (accepted : Bool) (old now : List ℕ) → Plays nodes net line (event.Take u way) accepted s new old now → AddsText nodes net line (after_take s.opening u way) s old now
     take_adds nodes net line accepted old now p =
         adds_of nodes net line s new (event.Take u way) p.reply (takes s.opening (sight_in s) u way) (after_take s.opening u way) old now (take_answer p.reply p.applied)
         (take_done p.reply p.applied).shows (λ log shows. ap (λ (x : Sight). with_entry log (takes s.opening x u way)) (sym (same_sight log s shows)))
         (λ entry e log shows. take_line nodes net line _ (sight_in s) u way (channel_of s.opening u way) entry e log) p.text_is
 
 -- a take and then an Act
-pub way_adds : (nodes : List Name) (net : Topology) (line : ℕ) (s mid : World) (u : ℕ) (way : Way) (old text now : List ℕ) → TakeDone s u way mid → Adds nodes net line (after_take s.opening u way) s old text →
-    Adds nodes net line (after_act mid.opening u) mid text now → Adds nodes net line (after_way s.opening u way) s old now
+pub way_adds : (nodes : List Name) (net : Topology) (line : ℕ) (s mid : World) (u : ℕ) (way : Way) (old text now : List ℕ) → TakeDone s u way mid → AddsText nodes net line (after_take s.opening u way) s old text →
+    AddsText nodes net line (after_act mid.opening u) mid text now → AddsText nodes net line (after_way s.opening u way) s old now
 way_adds nodes net line s mid u way old text now t a b =
     adds_then nodes net line (after_take s.opening u way) (after_act s.opening u) s mid old text now a t.shows
-    (subst (λ (o : Setting). Adds nodes net line (after_act o u) mid text now) t.opening b)
+    (subst (λ (o : Setting). AddsText nodes net line (after_act o u) mid text now) t.opening b)
 
 -- ---- over the ports of a node, over nodes, and over rounds
 
@@ -214,11 +214,11 @@ ports_push o u [] h log = refl
 ports_push o u (x ∷ hops) h log = ports_push o u hops h (after_way o u (Link x.link) log)
 
 pub ports_add : (nodes : List Name) (net : Topology) (line : ℕ) (s mid : World) (u k : ℕ) (acted : Bool) (hop : Hop) (old text now : List ℕ) → Moves (after_ports s.opening u (take k (ports_of s.opening.topology u))) acted s mid →
-    port_at s.opening.topology u k ≡ Some hop → Adds nodes net line (after_ports s.opening u (take k (ports_of s.opening.topology u))) s old text → Adds nodes net line (after_way mid.opening u (Link hop.link)) mid text now →
-    Adds nodes net line (after_ports s.opening u (take (k + 1) (ports_of s.opening.topology u))) s old now
+    port_at s.opening.topology u k ≡ Some hop → AddsText nodes net line (after_ports s.opening u (take k (ports_of s.opening.topology u))) s old text → AddsText nodes net line (after_way mid.opening u (Link hop.link)) mid text now →
+    AddsText nodes net line (after_ports s.opening u (take (k + 1) (ports_of s.opening.topology u))) s old now
 ports_add nodes net line s mid u k acted hop old text now m at a b =
     adds_as nodes net line (λ log. after_way s.opening u (Link hop.link) (after_ports s.opening u (take k ports) log)) (after_ports s.opening u (take (k + 1) ports)) s old now one_more
-    (adds_then nodes net line (after_ports s.opening u (take k ports)) (after_way s.opening u (Link hop.link)) s mid old text now a m.shows (subst (λ (o : Setting). Adds nodes net line (after_way o u (Link hop.link)) mid text now) m.opening b))
+    (adds_then nodes net line (after_ports s.opening u (take k ports)) (after_way s.opening u (Link hop.link)) s mid old text now a m.shows (subst (λ (o : Setting). AddsText nodes net line (after_way o u (Link hop.link)) mid text now) m.opening b))
   where
     ports : List Hop
     ports = ports_of s.opening.topology u
@@ -232,27 +232,27 @@ ports_add nodes net line s mid u k acted hop old text now m at a b =
         ∙ ap (λ (hops : List Hop). after_ports s.opening u hops log) (sym more)
 
 pub visit_adds : (nodes : List Name) (net : Topology) (line : ℕ) (s read held taken : World) (u : ℕ) (a b : Bool) (t0 t1 t2 t3 t4 : List ℕ) → Moves (after_read s.opening u) false s read → Moves (after_act read.opening u) a read held → Moves (after_way held.opening u Inbox) b held taken →
-    Adds nodes net line (after_read s.opening u) s t0 t1 → Adds nodes net line (after_act read.opening u) read t1 t2 → Adds nodes net line (after_way held.opening u Inbox) held t2 t3 → Adds nodes net line (after_ports taken.opening u (ports_of taken.opening.topology u)) taken t3 t4 →
-    Adds nodes net line (after_visit s.opening u) s t0 t4
+    AddsText nodes net line (after_read s.opening u) s t0 t1 → AddsText nodes net line (after_act read.opening u) read t1 t2 → AddsText nodes net line (after_way held.opening u Inbox) held t2 t3 → AddsText nodes net line (after_ports taken.opening u (ports_of taken.opening.topology u)) taken t3 t4 →
+    AddsText nodes net line (after_visit s.opening u) s t0 t4
 visit_adds nodes net line s read held taken u a b t0 t1 t2 t3 t4 m1 m2 m3 a1 a2 a3 a4 =
     let o = s.opening in
     let to_held = m2.opening ∙ m1.opening in
     let to_taken = m3.opening ∙ to_held in
     let n2 = subst (λ (x : Setting). Moves (after_act x u) a read held) m1.opening m2 in
     let n3 = subst (λ (x : Setting). Moves (after_way x u Inbox) b held taken) to_held m3 in
-    let b2 = subst (λ (x : Setting). Adds nodes net line (after_act x u) read t1 t2) m1.opening a2 in
-    let b3 = subst (λ (x : Setting). Adds nodes net line (after_way x u Inbox) held t2 t3) to_held a3 in
-    let b4 = subst (λ (x : Setting). Adds nodes net line (after_ports x u (ports_of x.topology u)) taken t3 t4) to_taken a4 in
+    let b2 = subst (λ (x : Setting). AddsText nodes net line (after_act x u) read t1 t2) m1.opening a2 in
+    let b3 = subst (λ (x : Setting). AddsText nodes net line (after_way x u Inbox) held t2 t3) to_held a3 in
+    let b4 = subst (λ (x : Setting). AddsText nodes net line (after_ports x u (ports_of x.topology u)) taken t3 t4) to_taken a4 in
     let p2 = adds_then nodes net line (after_read o u) (after_act o u) s read t0 t1 t2 a1 m1.shows b2 in
     let p3 = adds_then nodes net line (λ log. after_act o u (after_read o u log)) (after_way o u Inbox) s held t0 t2 t3 p2 (λ log k. n2.shows (after_read o u log) (m1.shows log k)) b3 in
     adds_then nodes net line (λ log. after_way o u Inbox (after_act o u (after_read o u log))) (after_ports o u (ports_of o.topology u)) s taken t0 t3 t4 p3
     (λ log k. n3.shows (after_act o u (after_read o u log)) (n2.shows (after_read o u log) (m1.shows log k))) b4
 
-pub round_adds : (nodes : List Name) (net : Topology) (line : ℕ) (s mid : World) (k : ℕ) (acted : Bool) (old text now : List ℕ) → Moves (after_visits s.opening k) acted s mid → Adds nodes net line (after_visits s.opening k) s old text →
-    Adds nodes net line (after_visit mid.opening k) mid text now → Adds nodes net line (after_visits s.opening (k + 1)) s old now
+pub round_adds : (nodes : List Name) (net : Topology) (line : ℕ) (s mid : World) (k : ℕ) (acted : Bool) (old text now : List ℕ) → Moves (after_visits s.opening k) acted s mid → AddsText nodes net line (after_visits s.opening k) s old text →
+    AddsText nodes net line (after_visit mid.opening k) mid text now → AddsText nodes net line (after_visits s.opening (k + 1)) s old now
 round_adds nodes net line s mid k acted old text now m a b =
-    subst (λ (j : ℕ). Adds nodes net line (after_visits s.opening j) s old now) (sym (add-one k))
-    (adds_then nodes net line (after_visits s.opening k) (after_visit s.opening k) s mid old text now a m.shows (subst (λ (o : Setting). Adds nodes net line (after_visit o k) mid text now) m.opening b))
+    subst (λ (j : ℕ). AddsText nodes net line (after_visits s.opening j) s old now) (sym (add-one k))
+    (adds_then nodes net line (after_visits s.opening k) (after_visit s.opening k) s mid old text now a m.shows (subst (λ (o : Setting). AddsText nodes net line (after_visit o k) mid text now) m.opening b))
 
 -- ---- rounds until one has no Act
 
@@ -263,7 +263,7 @@ pub record RoundsSo (nodes : List Name) (net : Topology) (line : ℕ) (s new : W
   pub shows : (log : List Entry) → Shows log s → Shows (after_rounds s.opening rounds log) new
   pub few : (ok : IsWorld s) → TakesFromBefore (after_rounds s.opening rounds) s ok new
   pub acts : (log : List Entry) → Shows log s → (k : ℕ) → k < rounds → acts_in (after_rounds s.opening k log) < acts_in (after_rounds s.opening (suc k) log)
-  pub adds : Adds nodes net line (after_rounds s.opening rounds) s old now
+  pub adds : AddsText nodes net line (after_rounds s.opening rounds) s old now
 
 pub rounds_none : (nodes : List Name) (net : Topology) (line : ℕ) (s : World) (text : List ℕ) → RoundsSo nodes net line s s text text
 rounds_none nodes net line s text = record {
@@ -291,12 +291,12 @@ before_few n made (InHand u (Link l)) = omega arith
 before_few n made Ended = omega arith
 
 module _ (nodes : List Name) (net : Topology) (line : ℕ) (s mid new : World) (old text now : List ℕ) (so : RoundsSo nodes net line s mid old text) (acted : Bool) (m : Moves (after_round mid.opening) acted mid new)
-    (a : Adds nodes net line (after_round mid.opening) mid text now) where
+    (a : AddsText nodes net line (after_round mid.opening) mid text now) where
   moves_here : Moves (after_round s.opening) acted mid new
   moves_here = subst (λ (o : Setting). Moves (after_round o) acted mid new) so.opening m
 
-  adds_here : Adds nodes net line (after_rounds s.opening (suc so.rounds)) s old now
-  adds_here = adds_then nodes net line (after_rounds s.opening so.rounds) (after_round s.opening) s mid old text now so.adds so.shows (subst (λ (o : Setting). Adds nodes net line (after_round o) mid text now) so.opening a)
+  adds_here : AddsText nodes net line (after_rounds s.opening (suc so.rounds)) s old now
+  adds_here = adds_then nodes net line (after_rounds s.opening so.rounds) (after_round s.opening) s mid old text now so.adds so.shows (subst (λ (o : Setting). AddsText nodes net line (after_round o) mid text now) so.opening a)
 
   pub rounds_more : acted ≡ true → RoundsSo nodes net line s new old now
   rounds_more did =

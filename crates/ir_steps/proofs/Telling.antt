@@ -20,7 +20,7 @@ use Rattle.ir_core.specs.Opened.{IsOpenedWith, open_refused}
 use Rattle.ir_core.proofs.Theorem.{all_of_one_epoch}
 use Rattle.ir_core.proofs.Plains.{never_in}
 use Rattle.ir_core.proofs.Runs.{Ran, run_more}
-use Rattle.ir_steps.specs.Told.{AreLinesOf, AreLinesOfRun, IsTold}
+use Rattle.ir_steps.specs.Told.{AreStepLines, AreLinesOfRun, IsTold}
 use Rattle.ir_steps.specs.Words.{event_line}
 use Rattle.ir_steps.specs.Drained.{AreLinesBetween}
 use Rattle.ir_steps.specs.Parts.{AddsDrain, AddsStep}
@@ -28,14 +28,14 @@ use Rattle.ir_steps.proofs.Adding.{told_by}
 
 -- one more step of a run, and its lines
 told_more : (nodes : List Name) (o : Setting) (log : List Entry) (lines : List ℕ) (steps : List Step) (replies : List (Result Reply Refused)) (mid later : List Entry) (line : ℕ) (s : Step) (r : Result Reply Refused) (text first : List ℕ) →
-    AreLinesOfRun nodes o log lines steps replies mid text → IsStepAnswered o mid s r later → AreLinesOf nodes o line mid s r later first →
+    AreLinesOfRun nodes o log lines steps replies mid text → IsStepAnswered o mid s r later → AreStepLines nodes o line mid s r later first →
     AreLinesOfRun nodes o log (lines ++ line ∷ []) (steps ++ s ∷ []) (replies ++ r ∷ []) later (text ++ first)
 told_more nodes o log [] [] [] mid later line s r text first h answered told = (
   later,
   first,
   [],
   subst (λ (x : List Entry). IsStepAnswered o x s r later) h.0 answered,
-  subst (λ (x : List Entry). AreLinesOf nodes o line x s r later first) h.0 told,
+  subst (λ (x : List Entry). AreStepLines nodes o line x s r later first) h.0 told,
   (refl, refl),
   ap (λ (t : List ℕ). t ++ first) h.1 ∙ sym (append-nil first),
 )
@@ -119,11 +119,11 @@ step_event nodes net line e reply s new old now over answers same is = record {
   text_is = is;
   opening = same;
   stepped = λ log k. (let a = answers log k in (
-      a.0,
-      a.1,
-      a.2,
-      ap (λ (n : Topology). event_line nodes n line (λ id. slice_get new.records id) e reply) over ∙ told_by nodes s.opening.topology line e reply a.0 new a.2,
-    ));
+    a.0,
+    a.1,
+    a.2,
+    ap (λ (n : Topology). event_line nodes n line (λ id. slice_get new.records id) e reply) over ∙ told_by nodes s.opening.topology line e reply a.0 new a.2,
+  ));
 }
 
 pub step_drain : (nodes : List Name) (net : Topology) (line : ℕ) (s new : World) (old now : List ℕ) → net ≡ s.opening.topology → AddsDrain nodes net line s new old now →
@@ -133,9 +133,9 @@ step_drain nodes net line s new old now over a = record {
   text_is = a.text_is;
   opening = a.opening;
   stepped = λ log k. (let d = a.drained log k in (
-      d.0,
-      (refl, d.1),
-      d.2,
-      subst (λ (n : Topology). AreLinesBetween nodes n line log d.0 a.text) over d.3,
-    ));
+    d.0,
+    (refl, d.1),
+    d.2,
+    subst (λ (n : Topology). AreLinesBetween nodes n line log d.0 a.text) over d.3,
+  ));
 }

@@ -22,10 +22,10 @@ entry_line nodes net line log (DidChange b) = []
 entry_line nodes net line log (DidInstall e plan b) = []
 
 -- the lines of what the nodes did in a history
-abbrev pub lines_of : List Name → Topology → ℕ → List Entry → List ℕ
-lines_of nodes net line [] = []
-lines_of nodes net line (entry ∷ log) = lines_of nodes net line log ++ entry_line nodes net line log entry
+abbrev pub history_lines : List Name → Topology → ℕ → List Entry → List ℕ
+history_lines nodes net line [] = []
+history_lines nodes net line (entry ∷ log) = history_lines nodes net line log ++ entry_line nodes net line log entry
 
 -- what they did between two histories, of which the later goes on from the other
 abbrev pub AreLinesBetween : List Name → Topology → ℕ → List Entry → List Entry → List ℕ → Type 0
-AreLinesBetween nodes net line log later text = lines_of nodes net line later ≡ lines_of nodes net line log ++ text
+AreLinesBetween nodes net line log later text = history_lines nodes net line later ≡ history_lines nodes net line log ++ text

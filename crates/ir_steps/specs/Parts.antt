@@ -14,7 +14,7 @@ use Rattle.ir_core.specs.Drain.{IsDrained}
 use Rattle.ir_core.specs.Run.{IsStepAnswered}
 use Rattle.ir_steps.specs.Words.{event_line}
 use Rattle.ir_steps.specs.Drained.{AreLinesBetween}
-use Rattle.ir_steps.specs.Told.{AreLinesOf}
+use Rattle.ir_steps.specs.Told.{AreStepLines}
 
 -- the world is that of a history
 abbrev pub HasHistory : World → Type 0
@@ -40,7 +40,7 @@ pub record Plays (nodes : List Name) (net : Topology) (line : ℕ) (e : Event) (
   pub text_is : now ≡ old ++ added_line nodes net line new e reply
 
 -- A text has more lines: those of what the nodes do from each history of a world to what this makes of it.
-pub record Adds (nodes : List Name) (net : Topology) (line : ℕ) (after : List Entry → List Entry) (s : World) (old new : List ℕ) : Type 0 where
+pub record AddsText (nodes : List Name) (net : Topology) (line : ℕ) (after : List Entry → List Entry) (s : World) (old new : List ℕ) : Type 0 where
   pub text : List ℕ
   pub text_is : new ≡ old ++ text
   pub lines : (log : List Entry) → Shows log s → AreLinesBetween nodes net line log (after log) text
@@ -59,7 +59,7 @@ pub record AddsDrain (nodes : List Name) (net : Topology) (line : ℕ) (s new : 
 -- A step was played with this reply, and a text has its lines.
 abbrev pub IsStepWith : List Name → ℕ → List Entry → Step → Result Reply Refused → Setting → World → List ℕ → Type 0
 IsStepWith nodes line log step reply setting new text =
-    (later : List Entry) × IsStepAnswered setting log step reply later × Shows later new × AreLinesOf nodes setting line log step reply later text
+    (later : List Entry) × IsStepAnswered setting log step reply later × Shows later new × AreStepLines nodes setting line log step reply later text
 
 pub record AddsStep (nodes : List Name) (line : ℕ) (step : Step) (reply : Result Reply Refused) (s new : World) (old now : List ℕ) : Type 0 where
   pub text : List ℕ

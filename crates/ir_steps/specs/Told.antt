@@ -15,16 +15,16 @@ use Rattle.ir_steps.specs.Drained.{AreLinesBetween}
 
 -- The lines of a step that leads from one history to another, with its reply: one of an event, and of a drain one for
 -- each event that the nodes played.
-abbrev pub AreLinesOf : List Name → Setting → ℕ → List Entry → Step → Result Reply Refused → List Entry → List ℕ → Type 0
-AreLinesOf nodes setting line log (step.Event e) reply later text = text ≡ event_line nodes setting.topology line (λ id. history.packet id later) e reply
-AreLinesOf nodes setting line log step.Drain reply later text = AreLinesBetween nodes setting.topology line log later text
+abbrev pub AreStepLines : List Name → Setting → ℕ → List Entry → Step → Result Reply Refused → List Entry → List ℕ → Type 0
+AreStepLines nodes setting line log (step.Event e) reply later text = text ≡ event_line nodes setting.topology line (λ id. history.packet id later) e reply
+AreStepLines nodes setting line log step.Drain reply later text = AreLinesBetween nodes setting.topology line log later text
 
 -- The lines of a run from one history to another: for each step, beside the number of its line in the script, those of
 -- that step after the history so far.
 abbrev pub AreLinesOfRun : List Name → Setting → List Entry → List ℕ → List Step → List (Result Reply Refused) → List Entry → List ℕ → Type 0
 AreLinesOfRun nodes setting log [] [] [] later text = (later ≡ log) × (text ≡ [])
 AreLinesOfRun nodes setting log (line ∷ lines) (s ∷ steps) (reply ∷ replies) later text =
-    (mid : List Entry) × (first : List ℕ) × (rest : List ℕ) × IsStepAnswered setting log s reply mid × AreLinesOf nodes setting line log s reply mid first
+    (mid : List Entry) × (first : List ℕ) × (rest : List ℕ) × IsStepAnswered setting log s reply mid × AreStepLines nodes setting line log s reply mid first
     × AreLinesOfRun nodes setting mid lines steps replies later rest × (text ≡ first ++ rest)
 AreLinesOfRun nodes setting log lines steps replies later text = ⊥
 

@@ -72,20 +72,20 @@ reply_words nodes net packet (Installed epoch) = decimal epoch ∷ []
 reply_words nodes net packet Changed = []
 
 -- the names of the refusals, in the order of their numbers, which are counted from 1
-abbrev pub refusal_words : List Name
-refusal_words =
+abbrev pub refused_words : List Name
+refused_words =
     codes "NoNode" ∷ codes "NoLink" ∷ codes "NoChannel" ∷ codes "NoEpoch" ∷ codes "HandFull"
     ∷ codes "HandEmpty" ∷ codes "Empty" ∷ codes "BadView" ∷ codes "Same" ∷ codes "EpochsFull"
     ∷ codes "Disconnected" ∷ codes "TooManyPackets" ∷ codes "NoMemory" ∷ codes "InboxFull" ∷ codes "TooManyChanges"
     ∷ codes "Used" ∷ []
 
-abbrev pub refusal_name : Refused → Name
-refusal_name refusal = slice_index_or refusal_words (refusal_code refusal - 1) []
+abbrev pub refused_word : Refused → Name
+refused_word refusal = slice_index_or refused_words (refusal_code refusal - 1) []
 
 -- an event with what it came to, or `refused NAME` before it
 abbrev pub told_words : List Name → Topology → (ℕ → Option Record) → Event → Result Reply Refused → List Name
 told_words nodes net packet e (Ok reply) = event_words nodes net e ++ reply_words nodes net packet reply
-told_words nodes net packet e (Err refusal) = codes "refused" ∷ refusal_name refusal ∷ event_words nodes net e
+told_words nodes net packet e (Err refusal) = codes "refused" ∷ refused_word refusal ∷ event_words nodes net e
 
 -- the line: the number of the script's line, and those words
 abbrev pub event_line : List Name → Topology → ℕ → (ℕ → Option Record) → Event → Result Reply Refused → List ℕ

@@ -2,7 +2,7 @@
 ghost use Rattle.std.specs.Prelude.{◌≡◌, ◌++◌, ◌∷◌, [], OnOk, string_bytes, flat_map, decimal, slice_get, option_copied};
 ghost use Rattle.ir_model.specs.{Graph.names};
 ghost use Rattle.ir_trace.specs.Rows.{spaced};
-ghost use Rattle.ir_steps.specs.Words.{kind_word, event_words, packet_words, end_words, reply_words, told_words, event_line, refusal_name};
+ghost use Rattle.ir_steps.specs.Words.{kind_word, event_words, packet_words, end_words, reply_words, told_words, event_line, refused_word};
 
 use crate::names::{Network, push_fate, push_link, push_node, push_way};
 use ir_core::{Event, Kind, Record, Refused, Reply, World};
@@ -30,8 +30,8 @@ static REFUSALS: [&str; 16] = [
 ];
 
 /// The name of a refusal.
-fn refusal_name(refusal: Refused) -> &'static str
-    ensures { result.now ≡ refusal_name refusal }
+fn refused_word(refusal: Refused) -> &'static str
+    ensures { result.now ≡ refused_word refusal }
 {
     REFUSALS[refusal.code() as usize - 1]
 }
@@ -167,7 +167,7 @@ fn push_told(
         }
         Err(refusal) => {
             push_word(text, "refused")?;
-            push_word(text, refusal_name(refusal))?;
+            push_word(text, refused_word(refusal))?;
             push_event(text, net, event)
         }
     }

@@ -3,7 +3,7 @@ use Rattle.ir_model.specs.Graph.{names}
 use Rattle.ir_core.specs.Setting.{Setting, nodes_of}
 use Rattle.ir_core.specs.Drain.{after_visits}
 use Rattle.ir_core.proofs.Rounds.{RoundSo, round_none, round_more, round_all}
-use Rattle.ir_steps.specs.Parts.{Adds}
+use Rattle.ir_steps.specs.Parts.{AddsText}
 use Rattle.ir_steps.proofs.Adding.{has_then, adds_none, round_adds}
 use Rattle.ir_steps.proofs.drain.round.Goals as goal
 
@@ -47,4 +47,4 @@ pub returns-clause-lines : goal.returns-clause-lines
 returns-clause-lines c =
     let s = c.args.world.now in
     let same : c.loop-node.node ≡ nodes_of s.opening = omega (arith, c.nodes-nodes.ensures.count, c.loop-node-test.false, c.loop-node.auto.node-end) in
-    subst (λ j. Adds (names c.args.net.now.graph.now) c.args.net.now.topology.now c.args.line (after_visits s.opening j) s (string_bytes c.args.text.now) (string_bytes c.loop-node.text)) same c.loop-node.invariant.adds
+    subst (λ j. AddsText (names c.args.net.now.graph.now) c.args.net.now.topology.now c.args.line (after_visits s.opening j) s (string_bytes c.args.text.now) (string_bytes c.loop-node.text)) same c.loop-node.invariant.adds

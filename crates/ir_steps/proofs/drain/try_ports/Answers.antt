@@ -6,7 +6,7 @@ use Rattle.ir_model.specs.Topology.{Topology, ports_of}
 use Rattle.ir_core.specs.Setting.{Setting, nodes_of}
 use Rattle.ir_core.specs.Drain.{after_ports}
 use Rattle.ir_core.proofs.Rounds.{PortsSo, ports_none, ports_more, ports_all, port_read, port_channel}
-use Rattle.ir_steps.specs.Parts.{Adds}
+use Rattle.ir_steps.specs.Parts.{AddsText}
 use Rattle.ir_steps.proofs.Adding.{has_then, adds_none, ports_add}
 use Rattle.ir_steps.proofs.drain.try_ports.Goals as goal
 
@@ -73,5 +73,5 @@ returns-clause-lines c =
     let s = c.args.world.now in
     let first = ap length (c.ports-ports.ensures ∙ ap (λ (t : Topology). ports_of t c.args.node) c.requires.over) in
     let le : length (ports_of c.args.world.now.opening.topology c.args.node) ≤ c.loop-port.port = omega arith in
-    subst (λ (hops : List Hop). Adds (names c.args.net.now.graph.now) c.args.net.now.topology.now c.args.line (after_ports s.opening c.args.node hops) s (string_bytes c.args.text.now) (string_bytes c.loop-port.text))
+    subst (λ (hops : List Hop). AddsText (names c.args.net.now.graph.now) c.args.net.now.topology.now c.args.line (after_ports s.opening c.args.node hops) s (string_bytes c.args.text.now) (string_bytes c.loop-port.text))
     (take_all c.loop-port.port (ports_of s.opening.topology c.args.node) le) c.loop-port.invariant.adds
