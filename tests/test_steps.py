@@ -72,16 +72,18 @@ def as_json(text: str) -> List[Dict[str, Any]]:
         if name == "inject":
             it.update({"from": words[0], "to": words[1], "packet": int(words[2]), "epoch": int(words[3])})
         elif name == "take":
-            it.update({"node": words[0], **({"from": words[2]} if words[1] == "from" else {}), "packet": int(words[-1])})
+            it.update({"node": words[0], "packet": int(words[-1])})
+            it.update({"from": words[2]} if words[1] == "from" else {})
         elif name == "act":
             it.update({"node": words[0], "packet": int(words[1]), "epoch": int(words[2])})
-            it.update({"next": words[4]} if words[3] == "sent" else {"fate": words[3], **({"link": words[4:]} if words[4:] else {})})
+            it["next" if words[3] == "sent" else "fate"] = words[4] if words[3] == "sent" else words[3]
+            it.update({"link": words[4:]} if words[3] in ("down", "full") else {})
         elif name == "install":
             it.update({"kind": words[0], "root": words[1], "epoch": int(words[2])})
         elif name == "read":
             it.update({"node": words[0], "version": int(words[1])})
         else:
-            it.update({"link": words} if name in ("down", "up") else {"epoch": int(words[0])})
+            it["link" if name in ("down", "up") else "epoch"] = words if name in ("down", "up") else int(words[0])
         out.append(it)
     return out
 
