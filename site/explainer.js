@@ -72,10 +72,10 @@ function reserveCaption() {
   trial.style.minHeight = "0";
   const heights = longest.map(said => {
     text.textContent = said;
-    return trial.offsetHeight;
+    return trial.getBoundingClientRect().height;
   });
   trial.remove();
-  caption.parentNode.style.minHeight = Math.max(...heights) + "px";
+  caption.parentNode.style.minHeight = Math.ceil(Math.max(...heights)) + "px";
 }
 
 // Whether the drawing is a phone's, where two labels of a node stand one above the other.

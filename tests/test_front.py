@@ -64,7 +64,7 @@ def test_front_bytes() -> None:
     good_files()
     script, own = installed(), inner()
     for words_ in (["plan", NSFNET], ["stats", NSFNET], ["compare", NSFNET], ["draw", NSFNET], ["draw", "--node", "Houston", "--svg", NSFNET],
-                   ["stats", "--json", NSFNET], ["sim", "good/topology", "good/script"], ["--help"], ["-h"], ["plan", "-h"], ["help", "plan"],
+                   ["stats", "--json", NSFNET], ["sim", "good/topology", "good/script"], ["check", "good/topology", "good/script", "good/trace"], ["--help"], ["-h"], ["plan", "-h"], ["help", "plan"],
                    ["--version"], ["-V"], ["frob"], ["plan"], ["plan", "--frob", "-"], ["walk", "--from", "Seattle", "--to", "Houston", NSFNET],
                    ["plan", "--quiet", "no file"], ["plan", "--no-explain", "no file"], ["xdp", "table", "1", "--node", "a", "good/topology"]):
         got, want = run(words_, program=script), run(words_, program=own)
@@ -76,6 +76,9 @@ def test_front_bytes() -> None:
     put("bad.edgelist", "a b 0\n")
     got = run(["plan", "bad.edgelist"], program=script)
     count("a fault has its file and line", None if re.fullmatch(rb"topology 1 BadWeight\nbentzolu: bad\.edgelist:1: .+\n", got[1]) else str(got))
+    put("bent", "trace 1\n0 1 a c 2 delivered a c\n")
+    got = run(["check", "good/topology", "good/script", "bent"], program=script)
+    count("a finding has its sentence", None if got[0] and got[2] == 1 and got[1].startswith(b"bentzolu: bent:2: ") else str(got))
     put("other.txt", "a b 3\nb c 4\nc a 5\n")
     got = run(["plan", "other.txt"], program=script)
     count("a list of another format is reported", None if got[2] == 0 and b"--format edgelist" in got[1] else str(got))

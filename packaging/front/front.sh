@@ -220,6 +220,13 @@ case $sub in
         if [ -z "$is_explained$is_quiet$help" ]; then
             shift
             set -- "$sub" --explain "$@"
+            # That a trace is well needs no sentence.
+            if [ "$sub" = check ] && [ ! -t 2 ]; then
+                { faults=$(run "$@" 2>&1 >&3 3>&-); } 3>&1
+                status=$?
+                [ "$status" = 0 ] || [ -z "$faults" ] || printf '%s\n' "$faults" >&2
+                exit "$status"
+            fi
         fi ;;
 esac
 
