@@ -2,6 +2,7 @@
 """Times of sweeps: a failure's cost, processes, and dask beside processes by turns. It needs NumPy, and dask for the last.
 
     sweeps.py cost [TURNS]       seconds of a processor a failure: of the program, and of Python with its figures
+    sweeps.py each [TURNS]       milliseconds a failure of `stats --each links` beside a plan and beside `stats`, without the start
     sweeps.py processes [TURNS]  all single failures of random 128/256 by 1, 2 and 4 processes, by turns
     sweeps.py dask [TURNS]       tasks of 0.2 s by four processes and by four workers of dask, by turns
     sweeps.py memory             the greatest resident set of a process that makes rows of 1,584 nodes
@@ -67,6 +68,29 @@ def once(graph, failures, kind):
     return after[0] - before[0], after[1] - before[1]
 
 
+def took(*words, text=""):
+    """Milliseconds of a processor of a run of the program."""
+    before = processor()[1]
+    subprocess.run([bentzolu.find_program(), *words], input=text.encode(), stdout=subprocess.DEVNULL, check=True)
+    return (processor()[1] - before) * 1e3
+
+
+def each(turns):
+    nets = [("nsfnet 14/21", [(u, v) for u, v in links_of(EXAMPLES / "nsfnet.edgelist")]), ("random 128/256", made("random", 128, 256)),
+            ("random 256/1,024", made("random", 256, 1024))]
+    for name, links in nets:
+        text = "".join(f"{u} {v} 1\n" for u, v in links)
+        for kind in ("shortest", "compact", "tree"):
+            rows = []
+            for _ in range(turns):
+                plan, stats, all_of_them = ([*words, "--kind", kind, "--format", "edgelist", "--threads", "1", "--quiet", "-"]
+                                            for words in (("plan",), ("stats",), ("stats", "--each", "links")))
+                start = took("--version")
+                rows.append([took(*plan, text=text) - start, took(*stats, text=text) - start, (took(*all_of_them, text=text) - start) / (len(links) + 1)])
+            plan, stats, failure = (statistics.median(column) for column in zip(*rows))
+            print(f"{name}, {kind}: plan {plan:.2f} ms, stats {stats:.2f} ms, a failure {failure:.2f} ms, {failure / plan:.1f} plans", flush=True)
+
+
 def processes(turns):
     graph, found = made("random", 128, 256), {}
     for _ in range(turns):
@@ -129,7 +153,7 @@ def memory():
 
 def main():
     what, turns = sys.argv[1], int(sys.argv[2]) if len(sys.argv) > 2 else 3
-    {"cost": cost, "processes": processes, "dask": dask, "memory": lambda _: memory()}[what](turns)
+    {"cost": cost, "each": each, "processes": processes, "dask": dask, "memory": lambda _: memory()}[what](turns)
 
 
 if __name__ == "__main__":

@@ -214,9 +214,9 @@ $(cat "$own/$name.built" 2> /dev/null)"
     fi
 fi
 
-# Each fault has its sentence, as on a terminal. `check` has them there alone, since it adds one to a trace that is right.
+# Each fault has its sentence, as on a terminal.
 case $sub in
-    plan | walk | stats | compare | draw | prefixes | ranges | xdp | sim | live)
+    plan | walk | stats | compare | draw | prefixes | ranges | xdp | sim | live | check)
         if [ -z "$is_explained$is_quiet$help" ]; then
             shift
             set -- "$sub" --explain "$@"
