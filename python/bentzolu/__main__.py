@@ -44,7 +44,8 @@ def add_changed(parser: argparse.ArgumentParser) -> None:
     parser.add_argument("--root", metavar="NAME", help="node from which labels are numbered, by its name in the program (default: the first node)")
     parser.add_argument(
         "--numbering", metavar="HOW",
-        help="depth-first (the default), tour, a file that lists the nodes in order, or keep: the old plan is numbered along a tour, and the new one keeps its labels",
+        help="depth-first (the default), tour, a file that lists the nodes in order, or keep: "
+        "the old plan is numbered along a tour, and the new one keeps its labels",
     )
     parser.add_argument("--json", action="store_true", help="print the changes as JSON")
     parser.add_argument("-o", "--output", metavar="OUT", help="write to this file (default: standard output)")
