@@ -73,7 +73,7 @@ complete_for() {
 }
 
 case "${1:-} ${2:-}" in
-    'agent '* | 'controller '* | 'fleet '* | 'lab '* | 'sweep '* | 'plot '* | 'convert '* | 'generate '* | 'xdp '[!t-]*) hand_on "$@" ;;
+    'agent '* | 'controller '* | 'fleet '* | 'diff '* | 'lab '* | 'sweep '* | 'plot '* | 'convert '* | 'generate '* | 'xdp '[!t-]*) hand_on "$@" ;;
     'completions '*) complete_for "${2:-}" ;;
 esac
 

@@ -37,11 +37,28 @@ def add_shown(parser: argparse.ArgumentParser) -> None:
     parser.set_defaults(act=commands.shown)
 
 
+def add_changed(parser: argparse.ArgumentParser) -> None:
+    parser.add_argument("old", metavar="OLD", help="file of the old network, in any format that convert reads")
+    parser.add_argument("new", metavar="NEW", help="file of the new network, of the same nodes")
+    parser.add_argument("--kind", default="shortest", choices=("shortest", "compact", "tree", "landmark"), help="kind of both plans (default: shortest)")
+    parser.add_argument("--root", metavar="NAME", help="node from which labels are numbered, by its name in the program (default: the first node)")
+    parser.add_argument(
+        "--numbering", metavar="HOW",
+        help="depth-first (the default), tour, a file that lists the nodes in order, or keep: "
+        "the old plan is numbered along a tour, and the new one keeps its labels",
+    )
+    parser.add_argument("--json", action="store_true", help="print the changes as JSON")
+    parser.add_argument("-o", "--output", metavar="OUT", help="write to this file (default: standard output)")
+    add_detour(parser)
+    parser.set_defaults(act=commands.changed)
+
+
 # The subcommands: the name, what it does, and what adds its words to a parser. `act` of what was found is called, and answers the status or None.
 COMMANDS: list[tuple[str, str, Callable[[argparse.ArgumentParser], None]]] = [
     ("convert", "convert a network in another format to a weighted edge list", add_convert),
     ("plan", "print the labels and intervals of a network in any format that convert reads", add_shown),
     ("stats", "print the figures of the plan of a network in any format that convert reads", add_shown),
+    ("diff", "print what each node changes between the plans of two networks of the same nodes", add_changed),
     ("generate", "print a network of a family: a grid, a fat tree, a random network", families.add_words),
 ]
 ABOUT = {

@@ -8,9 +8,12 @@ import warnings
 
 from . import calls, program as programs
 from .convert import READERS, converted, format_of, renamed
+from .diffs import diff
 from .errors import BentzoluError, TopologyWarning
 from .options import detour_words
+from .relabelling import Relabeller
 from .sources import of_file, read_text
+from .texts import Plan
 
 
 def text_of_file(name: str) -> str:
@@ -62,3 +65,27 @@ def shown(found: argparse.Namespace) -> None:
     for warning in caught:
         print(f"bentzolu {found.command}: {warning.message}", file=sys.stderr)
     write(found.output, said.output)
+
+
+def changed(found: argparse.Namespace) -> None:
+    """`diff`: what each node changes between the plans of two networks of the same nodes."""
+    with warnings.catch_warnings(record=True) as caught:
+        warnings.simplefilter("always", TopologyWarning)
+        old, new = two_plans(found)
+        names = calls.names_of(found.new)
+    for warning in caught:
+        print(f"bentzolu {found.command}: {warning.message}", file=sys.stderr)
+    change = diff(old, new)
+    write(found.output, change.json(names) if found.json else change.text(names))
+
+
+def two_plans(found: argparse.Namespace) -> tuple[Plan, Plan]:
+    """The plans of both networks, numbered as the words say: with `keep` the new one has the labels of the old one."""
+    root = None if found.root is None else calls.names_of(found.old).node(found.root)
+    if found.numbering == "keep":
+        keeper = Relabeller(found.kind, root=root)
+        old = keeper.made(found.old, None)
+        return old, keeper.made(found.new, sorted(old.nodes, key=old.labels.__getitem__))
+    numbered = () if found.numbering is None else ("--numbering", found.numbering)
+    given = {"landmarks": found.landmarks, "stretch": found.stretch, "words": numbered}
+    return calls.plan(found.old, found.kind, root, **given), calls.plan(found.new, found.kind, root, **given)

@@ -6,13 +6,15 @@
 """
 from __future__ import annotations
 
+import json
 from dataclasses import dataclass
 from typing import Any, Dict, Hashable, Mapping, Tuple
 
 from . import shown
 from .arrays import bits_for
 from .errors import FormatError
-from .texts import Interval, NodePlan, Plan
+from .texts import SAME, Interval, NodePlan, Plan
+from .typed import NodeNames
 
 
 @dataclass(frozen=True)
@@ -67,6 +69,37 @@ class PlanDiff:
             total += 1 + label + min(pieces, it.length * (label + port)) + (label if it.before != it.label else 0)
         return total
 
+    def text(self, names: NodeNames = SAME) -> str:
+        """The changes as `diff_text` of the library writes them: `diff KIND KIND N CHANGED RELABELLED REMOVED PUT`, and for each node that
+        changes a line `NODE WAS LABEL` with, by ascending starts, `- START` for what goes and `+ START NEIGHBOUR` for what comes.
+
+        Parameters
+        ----------
+        names : what the nodes are called, as `names_of(graph)`; each node is its own name by default
+        """
+        lines = [f"diff {self.kinds[0]} {self.kinds[1]} {self.size} {len(self.nodes)} {self.relabelled} {self.removed} {self.put}"]
+        for node, it in self.nodes.items():
+            steps = [(start, f"- {start}") for start in it.removed] + [(start, f"+ {start} {names.name(to)}") for start, to in it.put]
+            lines.append(" ".join([names.name(node), str(it.before), str(it.label), *(step for _, step in sorted(steps))]))
+        return "\n".join(lines) + "\n"
+
+    def json(self, names: NodeNames = SAME) -> str:
+        """The same as JSON, a line for each node."""
+        def said(value: Any) -> str:
+            return json.dumps(value, separators=(",", ":"))
+        head = {
+            "diff": list(self.kinds), "nodes": self.size, "changed": len(self.nodes), "relabelled": self.relabelled,
+            "removed": self.removed, "put": self.put,
+        }
+        rows = [
+            said({
+                "node": names.name(node), "was": it.before, "label": it.label, "remove": list(it.removed),
+                "put": [{"start": start, "next": names.name(to)} for start, to in it.put],
+            })
+            for node, it in self.nodes.items()
+        ]
+        return said(head)[:-1] + ',"rows":[' + ",".join("\n" + row for row in rows) + "\n]}\n"
+
     def _repr_html_(self) -> str:
         heads = ("node", "label before", "label", "starts removed", "starts added or changed")
         rows = (
@@ -80,6 +113,15 @@ class PlanDiff:
         return f"<PlanDiff: {said}, {self.removed:,} starts are removed, {self.put:,} added or changed>"
 
 
+def others(old: Plan, new: Plan) -> str:
+    """The first nodes that one of two plans has and the other has not."""
+    gone = next((node for node in old.nodes if node not in new.nodes), None)
+    come = next((node for node in new.nodes if node not in old.nodes), None)
+    if gone is None:
+        return f"{come} is in the new plan only"
+    return f"{gone} is in the old plan only" + ("" if come is None else f", {come} in the new one only")
+
+
 def diff(old: Plan, new: Plan) -> PlanDiff:
     """What changes from one plan to another.
 
@@ -89,7 +131,7 @@ def diff(old: Plan, new: Plan) -> PlanDiff:
         where the plans are not of the same nodes
     """
     if set(old.nodes) != set(new.nodes):
-        raise FormatError(f"the plans do not have the same nodes ({len(old.nodes):,} and {len(new.nodes):,} nodes)")
+        raise FormatError(f"the plans do not have the same nodes ({len(old.nodes):,} and {len(new.nodes):,} nodes): {others(old, new)}")
     found = {}
     for node, it in new.nodes.items():
         was = old.nodes[node]
