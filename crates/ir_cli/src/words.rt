@@ -101,7 +101,7 @@ pub struct Words {
     pub second: Option<Second>,
     /// Whether no number is to match two lines of a node, for `prefixes`.
     pub disjoint: bool,
-    /// Whether the order of the labels is to stand in place of the rows, for `plan`.
+    /// Whether the order of the labels is to be in place of the rows, for `plan`.
     pub order_alone: bool,
     /// Whether rows are also judged beside the script and each other, for `check`.
     pub whole: bool,
@@ -111,7 +111,7 @@ pub struct Words {
     pub json: bool,
     /// The name of the file that the output goes to; standard output where there is none.
     pub output: Option<String>,
-    /// Whether nothing is to stand on standard error.
+    /// Whether nothing is to be on standard error.
     pub quiet: bool,
     pub files: Vec<String>,
 }
@@ -355,7 +355,7 @@ fn all_words<'a>(
 /// - a numbering other than depth first of a tree or by landmarks;
 /// - a file's numbering beside a root, on standard input, or of a run;
 /// - a detour where no landmark plan is made;
-/// - a second plan of no kind;
+/// - a second plan whose kind is unknown;
 /// - a drawn walk with one end, a node beside a walk, and SVG without a node.
 pub fn read_words_as(alloc: Global, called: Called, words: &[String]) -> Result<Words, WordsError>
     ensures kind { IfOk result (λ words. FitsItsKind words) }

@@ -1,7 +1,7 @@
 //! The figures of a plan that its field knows it by: the most intervals at one port (van Leeuwen
-//! and Tan 1987), the bits of the rows, and whether links wait for each other in a ring, of one
-//! plan or of two together (Dally and Seitz 1987); the text of all figures; and a text that
-//! compares the plans of a network by their figures.
+//! and Tan 1987), and the bits of the rows. Further whether links wait for each other in a ring, of
+//! one plan or of two together (Dally and Seitz 1987). Also the text of all figures, and a text
+//! that compares the plans of a network by their figures.
 #![tactic(auto)]
 
 mod bits;

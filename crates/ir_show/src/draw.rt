@@ -37,7 +37,7 @@ fn goes_by(plan: &Plan, u: u16, link: u16, interval: Interval) -> bool
     plan.hop(u, interval.port).link == link
 }
 
-/// Writes an interval, behind a space if it is not the first.
+/// Writes an interval, after a space if it is not the first.
 fn push_separated(text: &mut String, interval: Interval, first: bool) -> TextResult
     ensures { OnOk result (string_bytes text.new ≡ string_bytes text.old
         ++ separated first (interval_text (as_interval interval))) }
@@ -192,11 +192,12 @@ fn bold_walk(alloc: Global, plan: &Plan, ends: Option<(u16, u16)>) -> Result<Vec
     Ok(nodes)
 }
 
-/// The drawing of a plan for Graphviz: a `graph` with a statement for each node, with its name and
-/// label, and one for each link, with its weight and at each end the intervals of its port; the
-/// links of the walk from the first of the ends to the second are bold. Condition: the plan is over
-/// the graph's network, and the ends are nodes. It is refused for memory alone. Takes O(n + m (k +
-/// w)), for n nodes and m links, at most k starts in a row, and w nodes on the bold walk.
+/// The drawing of a plan for Graphviz. It is a `graph` with a statement for each node, with its
+/// name and label, and one for each link, with its weight and at each end the intervals of its
+/// port. The links of the walk from the first of the ends to the second are bold. Condition: the
+/// plan is over the graph's network, and the ends are nodes. It is refused for memory alone. Takes
+/// O(n + m (k + w)), for n nodes and m links, at most k starts in a row, and w nodes on the bold
+/// walk.
 pub fn draw_text(
     alloc: Global,
     graph: &Graph,

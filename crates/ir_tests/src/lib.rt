@@ -1,6 +1,7 @@
 //! Tests without a handle, through the public calls of the crates below: worked examples of graphs, tables, plans,
-//! prefixes, changes of rows and runs; errors as texts and numbers; traces that are read, written and checked; words
-//! that are refused; what a world hands out; and runs of the program. No test here starts a thread or waits for one.
+//! prefixes, changes of rows and runs. Further errors as texts and numbers; traces that are read, written and checked;
+//! words that are refused; what a world hands out; and runs of the program. No test here starts a thread or waits for
+//! one.
 #![tactic(auto)]
 
 #[cfg(test)]
