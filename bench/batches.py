@@ -1,10 +1,10 @@
 #!/usr/bin/env python3
-"""Tells of how many nodes a plan of kind shortest makes the rows by searches of sixteen at a time, and of how many by one
+"""Prints of how many nodes a plan of kind shortest makes the rows by searches of sixteen at a time, and of how many by one
 search each, since their batch did not settle or went without: a row of Markdown for each network.
 
     batches.py [--program PATH] NETWORK ..
 
-NETWORK is a family of networks.py with its numbers, as `random:1024:8192`, and behind it `:weights` for random weights. The
+NETWORK is a family of networks.py with its numbers, as `random:1024:8192`, and after it `:weights` for random weights. The
 built program runs on one thread under valgrind, which counts the calls of its functions by their names; that takes
 fifty times as long as the plan. Outside the gate: it wants valgrind and the built program.
 """
@@ -21,7 +21,7 @@ ALONE, BATCH = "ir_plan::rows::searched_row", "ir_plan::batches::ways_from"
 
 
 def calls(profile):
-    """How often each function was called, by a profile of callgrind. A name stands whole where it comes first."""
+    """How often each function was called, by a profile of callgrind. A name is written in full where it comes first."""
     names, count, called = {}, {}, None
     for line in profile.splitlines():
         if line.startswith("cfn="):

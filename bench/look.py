@@ -136,7 +136,7 @@ class Plan:
         return waits
 
     def is_dependencies(self, line):
-        """Whether the line tells that no links wait for each other in a ring, or names such a ring."""
+        """Whether the line says that no links wait for each other in a ring, or names such a ring."""
         waits, (_, what, *ring) = self.waiting(), line.split(" ")
         if what == "acyclic":
             return not ring and nx.is_directed_acyclic_graph(waits)

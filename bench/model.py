@@ -125,7 +125,7 @@ def network(family, n, work):
 
 
 def measure(program, file, point, work):
-    """One run; the first line of a plan tells its starts."""
+    """One run; the first line of a plan gives its starts."""
     command = ["/usr/bin/time", "-o", f"{work}/time", "-f", "%U %S %M", program, "plan", "--format", "edgelist", "--threads", "1", file]
     with subprocess.Popen(command, stdout=subprocess.PIPE) as process:
         point.starts = int(process.stdout.readline().split()[3])

@@ -3,7 +3,7 @@
 
 For each of so many random networks of up to 40 nodes, with a kind and a root by chance, the rows of `route plan` say
 which neighbour each label is to have. The lines of `route prefixes`, and those of `--disjoint`, must give each label
-that neighbour and the numbers beyond the labels what the definition says, stand in their order, keep their matches
+that neighbour and the numbers beyond the labels what the definition says, are in their order, keep their matches
 while only the first are there, and be as few as a plain dynamic program over all blocks and all inherited neighbours
 finds; in networks of up to eight nodes also as few as a search over all sets of prefixes finds. Outside the gate: it
 wants python3 and the built program."""
@@ -20,7 +20,7 @@ SEARCHED_BITS = 3
 
 
 def network(draw):
-    """A connected network as text, with the words that tell its format, and the neighbours of each node."""
+    """A connected network as text, with the words that name its format, and the neighbours of each node."""
     count = draw.choice((draw.randint(1, 8), draw.randint(1, 40)))
     links = [(draw.randrange(i), i) for i in range(1, count)]
     links += [(draw.randrange(count), draw.randrange(count)) for _ in range(draw.randint(0, 2 * count))]

@@ -7,7 +7,7 @@ N runs, 300 if that isn't said, from that of number S on, 0 if that isn't said; 
 has a network of 100 to 1,000 nodes, of a family of networks.py, with weights of one, few, so that ways tie, or many; the
 kind compact and a tour; packets of epoch 1, and of an epoch 2 from another root. A run passes where `route check` finds
 nothing in the trace, all packets are in it and are delivered, and the hops and the weight of each are those that
-`route walk` tells of its epoch. Each run that fails is told, and the last line is `N passed, M failed`.
+`route walk` prints for its epoch. Each run that fails is reported, and the last line is `N passed, M failed`.
 
 Outside the gate: it wants python3 and the built program, which the variable BENTZOLU_ROUTE names, else
 crates/route/out/route.

@@ -1,10 +1,10 @@
 #!/usr/bin/env python3
-"""Makes the pages that are generated, from the sources: docs/make.py writes them, docs/make.py --check tells which differ.
+"""Makes the pages that are generated, from the sources: docs/make.py writes them, docs/make.py --check says which differ.
 
 docs/BELIEVE.md has the definitions that the contract of `play` reaches, in reading order, and what further calls add.
 docs/DEFINITIONS.md has all pages of definitions, by the comments over them, with the terms and sources, and what is
 said of definitions without a comment, of docs/definitions.json. Each crates/NAME/README.md has its public calls below a
-mark, by their doc comments and the names of their clauses; what stands above the mark is written by hand.
+mark, by their doc comments and the names of their clauses; what is above the mark is written by hand.
 """
 import glob
 import json
@@ -34,7 +34,7 @@ IN_FEW_WORDS = ("ir_cli", "ir_answer", "ir_shell")  # of their further definitio
 
 
 def wrapped(text, first="", later=None):
-    """A paragraph within the width; what stands between backticks is broken too."""
+    """A paragraph within the width; what is between backticks is broken too."""
     return textwrap.fill(text, WIDTH, initial_indent=first, subsequent_indent=first if later is None else later, break_long_words=False, break_on_hyphens=False)
 
 
@@ -86,7 +86,7 @@ def place_of(call, crate):
 
 
 def contract(path, call):
-    """A call's signature and contract, as they stand."""
+    """A call's signature and contract, as they are."""
     found = re.search(rf"^( *)pub fn {call}\b.*?^\1(?=\{{)", specs.text_of(path), flags=re.M | re.S)
     return textwrap.dedent(found[0]).rstrip().split("\n")
 
@@ -105,12 +105,12 @@ def declaration(path, name):
 
 
 def value_of(crate, name):
-    """The value of a constant, as it stands."""
+    """The value of a constant, as it is."""
     return re.search(rf"const {name}: [^=]*= ([^;]*);", specs.text_of(specs.declared_in(crate, name)))[1]
 
 
 def quoted(definition):
-    """A definition with its comment, as they stand but for where lines of the comment end."""
+    """A definition with its comment, as they are but for where lines of the comment end."""
     indent = len(definition.lines[0]) - len(definition.lines[0].lstrip(" "))
     comment = [wrapped(definition.comment, " " * indent + "-- ")] if definition.comment else []
     return [line for text in comment for line in text.split("\n")] + definition.lines
@@ -347,7 +347,7 @@ def believed_pages():
 
 
 def above():
-    """The crates by how many crates stand above each, without those of tests."""
+    """The crates by how many crates are above each, without those of tests."""
     uses = {crate: used for crate, used in specs.crates().items() if not crate.endswith("_tests")}
     higher = {}
     for low in uses:

@@ -40,7 +40,7 @@ class Page:
                 self.scope[made] = ("definition", *self.key, definition.name)
 
     def read(self, lines):
-        """The definitions, each with the comment that stands right above it."""
+        """The definitions, each with the comment that is right above it."""
         at, comment, alone, module = 0, [], [], None
         while at < len(lines):
             line = lines[at]

@@ -70,13 +70,13 @@ def without_note(line: str) -> str:
 
 
 def note_status(line: str) -> Optional[int]:
-    """The status that a note behind a command names."""
+    """The status that a note after a command names."""
     found = re.search(r"\s{3,}# .*status (\d)", line)
     return int(found.group(1)) if found else None
 
 
 def sessions(rows: List[str]) -> List[Tuple[str, List[str], Optional[int]]]:
-    """The commands of a block behind `$ `, each with the lines that it prints and its status where a note names one."""
+    """The commands of a block after `$ `, each with the lines that it prints and its status where a note names one."""
     found: List[Tuple[str, List[str], Optional[int]]] = []
     for row in rows:
         if row.startswith("$ "):
@@ -124,7 +124,7 @@ def try_session(page: str, folder: str, top: str, command: str, shown: List[str]
 
 
 def try_told(page: str, top: str, command: str, after: List[Block]) -> None:
-    """A command alone in its block; what it prints is told by the words and the block behind it."""
+    """A command alone in its block; what it prints is given by the words and the block after it."""
     if is_skipped(page, command):
         return
     words_after = " ".join(after[0][1]) if after and after[0][0] == "text" else ""
@@ -148,7 +148,7 @@ def try_told(page: str, top: str, command: str, after: List[Block]) -> None:
 
 
 def try_page(page: str, text: str, folder: str, top: str) -> None:
-    """The commands of a page: behind `$ `, or alone in a block with the program's path."""
+    """The commands of a page: after `$ `, or alone in a block with the program's path."""
     found, number = blocks(text), 0
     for at, (kind, rows) in enumerate(found):
         if kind != "code":
@@ -307,7 +307,7 @@ def figures_told(readme: str) -> None:
 
 
 def test_gate() -> None:
-    """tests/refused-memory where there is no cc: it fails in the gate, and tells so elsewhere."""
+    """tests/refused-memory where there is no cc: it fails in the gate, and says so elsewhere."""
     bin_folder = work("bin")
     os.makedirs(bin_folder, exist_ok=True)
     for tool in ("bash", "dirname"):

@@ -18,7 +18,7 @@ pytestmark = [built]
 
 
 def each_unreadable(how: str, name: str, **more: Any) -> None:
-    """Each choice of texts that can't be read: the first of them is told, before any other fault."""
+    """Each choice of texts that can't be read: the first of them is reported, before any other fault."""
     for sub, parts in TEXTS.items():
         for chosen in itertools.product([False, True], repeat=parts):
             if not any(chosen):

@@ -28,7 +28,7 @@ def test_landmarks() -> None:
 
 
 def test_landmarks_told() -> None:
-    """The figures have the landmarks and the stretch behind the others, for this kind alone."""
+    """The figures have the landmarks and the stretch after the others, for this kind alone."""
     for more, told in (([], b"landmarks c b\nstretch 300\n"), (["--landmarks", "1", "--stretch", "200"], b"landmarks c\nstretch 200\n"),
                        (["--landmarks", "7"], b"landmarks c b d e f a g\nstretch 300\n")):
         got = run(["stats", "--kind", "landmark", "--root", "c", *more, "-"], PATH)

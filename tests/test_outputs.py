@@ -53,7 +53,7 @@ def test_outputs() -> None:
 
 
 def closed_pipe(sub: str, files: List[str], at: signal.Handlers) -> None:
-    """A reader that takes one line and goes away: the program ends, and tells it by its status alone."""
+    """A reader that takes one line and goes away: the program ends, and reports it by its status alone."""
     name = f"{sub} into a pipe that is closed, with SIGPIPE {at.name}"
     process = subprocess.Popen([program(), *call(sub, files, "--capacity", str(CAPACITY))], cwd=work(), stdin=subprocess.DEVNULL,
                                stdout=subprocess.PIPE, stderr=subprocess.PIPE, restore_signals=False,
@@ -132,7 +132,7 @@ def test_kept() -> None:
 
 
 def test_kept_places() -> None:
-    """Where a file is, what it may be done with, and what stands beside it."""
+    """Where a file is, what it may be done with, and what is beside it."""
     good_files()
     plan = ["plan", "good/topology"]
     output = run(plan)[0]
@@ -259,7 +259,7 @@ def test_kept_killed() -> None:
 
 
 def test_kept_streamed() -> None:
-    """A pipe of a name is written as the output comes, and what its reader leaves is told by the status alone."""
+    """A pipe of a name is written as the output comes, and what its reader leaves is reported by the status alone."""
     good_files()
     path = os.path.join(fresh(), "pipe")
     os.mkfifo(path)
@@ -278,7 +278,7 @@ def test_kept_streamed() -> None:
 
 
 def test_silent() -> None:
-    """--quiet: nothing on standard error, and all else as without it; words that are not understood are told."""
+    """--quiet: nothing on standard error, and all else as without it; words that are not understood are reported."""
     good_files()
     put("good/bad", "\x01\n")
     put("good/refused", "retire 1\nup a b\ninject a c\n")

@@ -113,7 +113,7 @@ def walked(net: str, root: str, pairs: List[Tuple[str, str]]) -> Iterator[List[s
 
 
 def test_tours() -> None:
-    """Packets of `sim` and `live` go as `walk` tells of a tour, also behind an install, and `check` knows the ways by that numbering."""
+    """Packets of `sim` and `live` go as `walk` prints of a tour, also after an install, and `check` knows the ways by that numbering."""
     net = put("toured/net", "".join(f"n{u} n{u + 1} n{u + 3}\n" for u in range(10)))
     pairs = [(f"n{u}", f"n{v}") for u in (0, 4, 6, 12) for v in range(13) if u != v]
     injected = "".join(f"inject {u} {v}\ndrain\n" for u, v in pairs)

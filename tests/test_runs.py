@@ -142,7 +142,7 @@ def is_still(process: "subprocess.Popen[bytes]", took: float) -> bool:
 
 def live_run(files: List[str], processors: List[int]) -> Got:
     """
-    Output, faults (none: they stand in the output) and status of a live run on these processors. Its status is `hangs`
+    Output, faults (none: they are in the output) and status of a live run on these processors. Its status is `hangs`
     where it was still at so many looks in turn: a machine with other work may make it wait long for a processor. It is
     `hangs`, too, where it takes far more time than it has work for.
     """

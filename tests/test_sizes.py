@@ -235,7 +235,7 @@ def test_sizes_of_tours_alike() -> None:
 @slow
 @within(3_000)
 def test_sizes_of_runs() -> None:
-    """Packets of three epochs, one of each kind, over a network of the most nodes and links: `sim` and `live` send them as `walk` tells
+    """Packets of three epochs, one of each kind, over a network of the most nodes and links: `sim` and `live` send them as `walk` prints
     of the plan of that kind, root and numbering, and `check` finds nothing."""
     greatest_net()
     kinds, ends = ["shortest", "compact", "tree"], [("a", f"n{NET_NODES // 2}"), (f"n{NET_NODES - 1}", "n77")]

@@ -71,7 +71,7 @@ def test_words_of_rules() -> None:
 
 
 def short_options(sub: str, files: List[str]) -> None:
-    """A letter does what its word does, beside its value, behind `=` and in one word with it."""
+    """A letter does what its word does, beside its value, after `=` and in one word with it."""
     for letter, word, value in (("-f", "--format", "adjlist"), ("-k", "--kind", "compact"), ("-r", "--root", "b"), ("-n", "--numbering", "tour"),
                                 ("-o", "--output", "-")):
         want = run(call(sub, files, word, value))
@@ -116,7 +116,7 @@ def stamped(times: int) -> bytes:
 
 def test_numbers() -> None:
     """An inbox and a channel hold as many packets as --capacity says, a run as many as --packets, and a packet gets as many stamps
-    as --restamps: the least, the most, what stands between, and what is taken where the option is not there."""
+    as --restamps: the least, the most, what is between, and what is taken where the option is not there."""
     for told in (None, 1, 2, 15, 16, 17, 64, 255, 256, 512, 513, CAPACITY - 1, CAPACITY):
         words_ = [] if told is None else ["--capacity", str(told)]
         held = told or DEFAULT_CAPACITY

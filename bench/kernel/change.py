@@ -7,7 +7,7 @@ pause:
   in place  one change, from the tree to shortest ways: at each node the new routes replace the old ones under the
             same addresses, and those that are left over go
   moved     the same to a plan from another root, so that the nodes' addresses move too
-What is told of each: packets; lost, not delivered where they were sent to (of these in a loop, and at a wrong node);
+What is printed of each: packets; lost, not delivered where they were sent to (of these in a loop, and at a wrong node);
 mixed, those whose way is no part of a walk that was prescribed: by epochs of the walk in their own epoch, in place of
 the old walk or the new one. The status is above 0 where by epochs one was lost or mixed, or the measuring has a gap."""
 import functools

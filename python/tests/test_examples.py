@@ -17,7 +17,7 @@ STEPS = [("inject", "a", "c"), ("install", "shortest", "a"), ("drain",)]
 
 
 class Examples(unittest.TestCase):
-    """Each example prints what stands below it."""
+    """Each example prints what is below it."""
 
     def tried(self, modules):
         for name in modules:

@@ -162,7 +162,7 @@ class NotebookTest(unittest.TestCase):
 @needs_matplotlib
 @needs_route
 class PageTest(unittest.TestCase):
-    """docs/SWEEPS.md: what its commands behind `$ ` print, and its lines of Python."""
+    """docs/SWEEPS.md: what its commands after `$ ` print, and its lines of Python."""
 
     PAGE = TOP / "docs/SWEEPS.md"
 

@@ -14,7 +14,7 @@ PAGE = TOP / "docs/TUTORIAL.md"
 
 
 def sessions(rows):
-    """The commands of a block behind `$ `, each with the lines that it prints; a `...` behind them stands for more."""
+    """The commands of a block after `$ `, each with the lines that it prints; a `...` after them stands for more."""
     found = []
     for row in rows:
         if row.startswith("$ "):

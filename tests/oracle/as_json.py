@@ -57,7 +57,7 @@ def ranges(lines):
 
 
 def fate_of(words):
-    """What became of a packet, and the words behind that."""
+    """What became of a packet, and the words after that."""
     if words[0] in ("down", "full"):
         return {"fate": words[0], "link": words[1:3]}, words[3:]
     return {"fate": words[0]}, words[1:]

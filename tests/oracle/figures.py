@@ -142,7 +142,7 @@ class Plan:
         direct = [self.far[u][d] for u, d in pairs]
         stretches = ["-", "-"]
         if pairs:
-            # the first of the pairs with the greatest stretch, as its walk and its distance are told
+            # the first of the pairs with the greatest stretch, as its walk and its distance are printed
             worst = max(range(len(pairs)), key=lambda i: fractions.Fraction(walks[i], direct[i]))
             stretches = [f"{sum(walks)}/{sum(direct)}", f"{walks[worst]}/{direct[worst]}"]
         label = width(len(self.ports))

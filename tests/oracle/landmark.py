@@ -32,7 +32,7 @@ def drawn(luck: random.Random) -> List[Tuple[int, int, int]]:
 
 
 def most_linked(ports: Ports, root: str, count: int) -> List[str]:
-    """Return the root, and behind it the nodes of most links, of as many the first one of the text."""
+    """Return the root, and after it the nodes of most links, of as many the first one of the text."""
     names = list(ports)
     others = sorted((name for name in names if name != root), key=lambda name: (-len(ports[name]), names.index(name)))
     return [root, *others][:count]

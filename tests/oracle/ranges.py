@@ -30,7 +30,7 @@ def tells(chosen, towards):
 
 
 def fewest(towards):
-    """Whether no fewer ranges tell the neighbours."""
+    """Whether no fewer ranges give the neighbours."""
     count, neighbours = len(towards), sorted(set(towards) - {None})
     spans = [(a, b) for a in range(count) for b in range(a, count)]
     every = [(a, b, to) for a, b in spans for to in neighbours if all(towards[x] == to for x in range(a, b + 1))]

@@ -1,6 +1,6 @@
 """What `sim` and `live` print of scripts in which each packet is drained before anything else happens.
 
-Then a packet ends as the network stands: it goes by the plan of the epoch that it was stamped with, up to its destination
+Then a packet ends as the network is: it goes by the plan of the epoch that it was stamped with, up to its destination
 or to a link that is down, and no step where that epoch is retired. `check` is to say `ok` of the trace, also with `--whole`.
 Plans of kind landmark go round as the words of the run say, by the landmarks of the links that are up then.
 """
