@@ -1,13 +1,22 @@
 """The examples in the docstrings, by the program; and that options given in any way are the same."""
 import doctest
 import importlib
+import importlib.util
 import pathlib
 import unittest
 
 from common import bentzolu, needs_route
 
-MODULES = ("calls", "graphs", "label_ranges", "names", "options", "texts")
-WITHOUT_PROGRAM = ("graphs", "label_ranges", "names", "texts")
+WITHOUT_PROGRAM = ("graphs", "label_ranges", "lines", "names", "texts", "xdp")
+WITH_NUMPY = ("sweeping",)
+
+
+def modules():
+    """The modules of the package whose docstrings have examples."""
+    folder = pathlib.Path(bentzolu.__file__).parent
+    return sorted(path.stem for path in folder.glob("*.py") if "    >>> " in path.read_text(encoding="utf-8"))
+
+
 CALLS = (
     "check", "check_ranges", "compile_many", "draw", "live", "names_of", "plan", "prefixes", "ranges", "read_plan", "read_prefixes",
     "read_ranges", "read_stats", "read_trace", "read_walk", "scaled", "simulate", "stats", "walk", "write_trace",
@@ -27,11 +36,17 @@ class Examples(unittest.TestCase):
                 self.assertEqual(found.failed, 0)
 
     def test_without_program(self):
+        self.assertLess(set(WITHOUT_PROGRAM + WITH_NUMPY), set(modules()))
         self.tried(WITHOUT_PROGRAM)
 
     @needs_route
     def test_with_program(self):
-        self.tried(name for name in MODULES if name not in WITHOUT_PROGRAM)
+        self.tried(name for name in modules() if name not in WITHOUT_PROGRAM + WITH_NUMPY)
+
+    @needs_route
+    @unittest.skipUnless(importlib.util.find_spec("numpy"), "there is no NumPy")
+    def test_with_numpy(self):
+        self.tried(WITH_NUMPY)
 
     def test_each_call_has_one(self):
         for name in CALLS:
