@@ -226,7 +226,7 @@ def hands_on(name: str, program: str) -> None:
     with open(os.path.join(bin_folder, "python3"), "w", encoding="ascii") as file:
         file.write("#!/bin/sh\nexit 1\n")
     os.chmod(file.name, 0o755)
-    if subprocess.run(["/usr/bin/python3", "-c", "import bentzolu"], cwd="/", env={}, capture_output=True).returncode == 0:
+    if subprocess.run(["/usr/bin/python3", "-c", "import bentzolu"], cwd="/", env={}, capture_output=True).returncode == 0:  # type: ignore[arg-type]
         return  # it is installed on this machine
     done = subprocess.run([program, "agent"], cwd="/", env={"PATH": f"{bin_folder}:/usr/bin:/bin"}, capture_output=True, timeout=SECONDS)
     expect(f"{name} agent without the package", (done.stdout, done.stderr, done.returncode), b"", SOME, 1)
@@ -245,7 +245,7 @@ def test_installed() -> None:
         shared = ["share/doc/bentzolu/lab.html", "share/doc/bentzolu/examples"]
         written = "".join(f"{prefix}/{file}\n" for file in [*files, *shared]).encode()
         for turn in ("once", "again"):
-            expect(f"installed as {name}, {turn}", installed_in(top, prefix, *words_), written, b"", 0)
+            expect(f"installed as {name}, {turn}", installed_in(top, prefix, *words_), written, b"", 0)  # type: ignore[misc]
         beside = [file for file in files_in(prefix) if not file.startswith("share/doc/bentzolu/examples/")]
         count(f"files of {name}", None if beside == sorted([*files, shared[0]]) else str(beside))
         got = run(["--version"], program=os.path.join(prefix, "bin", name))
@@ -259,14 +259,14 @@ def test_installed() -> None:
             page = file.read()
         count(f"the manual page of {name}", None if f".TH {name.upper()} 1" in page and f"\\fB{name} plan" in page else "not of that name")
         other = put(os.path.join(prefix, "bin/other"), "")
-        removed = installed_in(top, "--uninstall", prefix, *words_)
+        removed = installed_in(top, "--uninstall", prefix, *words_)  # type: ignore[misc]
         expect(f"{name} removed", (b"".join(sorted(removed[0].splitlines(True))), *removed[1:]), b"".join(sorted(written.splitlines(True))), b"", 0)
         count(f"no folder is left of {name}", None if os.listdir(prefix) == ["bin"] else str(os.listdir(prefix)))
         count(f"files behind {name}", None if files_in(prefix) == ["bin/other"] else str(files_in(prefix)))
-        expect(f"{name} removed again", installed_in(top, "--uninstall", prefix, *words_), b"", SOME, 1)
+        expect(f"{name} removed again", installed_in(top, "--uninstall", prefix, *words_), b"", SOME, 1)  # type: ignore[misc]
         os.remove(work(other))
     for words_ in ([], ["a", "b"], ["a", "--name", "-x"], ["a", "--name", ""], ["a", "--name"], ["a", "--frob"], ["--uninstall"], [""]):
-        expect(f"install.sh {words_}", installed_in(top, *words_), b"", SOME, 2)
+        expect(f"install.sh {words_}", installed_in(top, *words_), b"", SOME, 2)  # type: ignore[misc]
     expect("install.sh --help", installed_in(top, "--help"), SOME, b"", 0)
     os.remove(os.path.join(top, "crates/route/out/route"))
     expect("install.sh with no program", installed_in(top, prefix), b"", SOME, 1)

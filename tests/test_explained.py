@@ -214,7 +214,7 @@ def test_explained_scripts() -> None:
     said = "".join(f"route: said/script:{i + 1}: 'up a b' was refused: it changes nothing\n" for i in range(64))
     got = run(["sim", "--explain", ring, "said/script"])
     expect("many refused steps", got, b"trace 1\n", (many + said + "route: further lines are not explained\n").encode(), 0)
-    for text, line, sentence in (
+    for text, line, sentence in (  # type: ignore[assignment]
         ("a\n\xe4\n".encode("latin-1"), "2 BadByte", ":2: byte 0xE4 in '\\xE4': names must be printable ASCII"),
         ("a\nb c\n", "2 BadRow", ":2: two words; a line of a numbering is the name of one node"),
         ("a\na2\n", "2 UnknownNode", f":2: no node 'a2' in {ring} (did you mean 'a'?)"),

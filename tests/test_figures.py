@@ -142,7 +142,7 @@ def test_compared() -> None:
     for words_ in (["--kind", "tree", "-"], ["--numbering", "tour", "-"], ["--capacity", "4", "-"], ["--packets", "4", "-"], ["--order", "-"],
                    ["-k", "tree", "-"], ["-n", "tour", "-"], ["--svg", "-"], ["--node", "a", "-"], ["-o", "-", "-o", "-", "-"],
                    ["--threads", "0", "-"], ["--format", "json", "-"], ["-", "-"], ["good/topology", "good/script"], []):
-        expect(f"compare, not understood: {words_}", run(["compare", *words_], b"a b\n"), b"", SOME, 2)
+        expect(f"compare, not understood: {words_}", run(["compare", *words_], b"a b\n"), b"", SOME, 2)  # type: ignore[misc]
     for words_ in (["compare", "--help"], ["compare", "-h"], ["help", "compare"]):
         expect(f"understood: {words_}", run(words_), SOME, b"", 0)
     for name, text in (("NoNode", "a b\n"), ("Empty", ""), ("Disconnected", "a z\nc\n")):

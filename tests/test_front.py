@@ -97,10 +97,10 @@ def test_front_figures() -> None:
         wanted = ["full tables" if it == "tables" else {"cycle": "possible", "acyclic": "none"}.get(it, it) for it in wanted]
         wanted = [f"{int(it.split('/')[0]) / int(it.split('/')[1]):.2f}" if "/" in it else it for it in wanted]
         count(f"compare: {line}", None if cells == wanted else str(cells))
-    ends = {len(re.match(r".*?\S+  +\S.*?  +[\d-]+(?=  )", row)[0]) for row in rows if re.match(r".*?\S+  +\S.*?  +[\d-]+(?=  )", row)}
+    ends = {len(re.match(r".*?\S+  +\S.*?  +[\d-]+(?=  )", row)[0]) for row in rows if re.match(r".*?\S+  +\S.*?  +[\d-]+(?=  )", row)}  # type: ignore[index]
     count("its columns are aligned", None if len(ends) == 1 else f"{ends}")
     for words_, environment in ((["compare", "--color", "never", NSFNET], {}), (["compare", NSFNET], {"NO_COLOR": "1"}), (["compare", NSFNET], {"TERM": "dumb"})):
-        again = shown(words_, environment=environment)[0]
+        again = shown(words_, environment=environment)[0]  # type: ignore[arg-type]
         count(f"no colours: {words_} {environment}", None if again == plainly(text) else repr(again))
     piped = run(["--pretty", "compare", NSFNET], program=installed())[0].decode()
     count("--pretty in a pipe", None if piped == plainly(text) else piped)
@@ -170,7 +170,7 @@ def test_front_reasons() -> None:
     with open("/dev/full", "wb") as full:
         reason("standard output", run(["plan", "good/topology"], program=script, stdout=full), b"bentzolu: standard output: No space left on device")
     expect("a file that may be written", run(["plan", "-o", "out", "good/topology"], program=script), b"", b"", 0)
-    with open(work("full"), "wb") as file:
+    with open(work("full"), "wb") as file:  # type: ignore[assignment]
         expect("standard output is a file", run(["plan", "good/topology"], program=script, stdout=file), b"", b"", 0)
     count("no file is left behind", [name for name in os.listdir(work()) + os.listdir(work("folder")) if name.startswith(".bentzolu")] or None)
 
@@ -183,7 +183,7 @@ def test_front_generate() -> None:
         expect(f"generate topology {words_}", run(["generate", "topology", *words_], program=script), want, b"", 0)
     made = run(["generate", "topology", "grid", "8", "8"], program=script)[0]
     expect("a first plan", run(["stats", "-"], made, program=script), SOME, b"", 0)
-    for words_, said in ((["gird", "3", "3"], b"did you mean 'grid'?"), (["grid", "3"], b"ROWS and COLUMNS"), (["random", "3", "100"], b"2 to 3 links"),
+    for words_, said in ((["gird", "3", "3"], b"did you mean 'grid'?"), (["grid", "3"], b"ROWS and COLUMNS"), (["random", "3", "100"], b"2 to 3 links"),  # type: ignore[assignment]
                          (["complete", "60000"], b"at most 65,536"), (["ring", "x"], b"whole number"), (["fattree", "3"], b"even"), ([], b"families are")):
         got = run(["generate", "topology", *words_], program=script)
         count(f"generate topology {words_}", None if got[0] == b"" and said in got[1] and got[2] == 2 and got[1].count(b"\n") == 1 else str(got))

@@ -65,7 +65,7 @@ def closed_pipe(sub: str, files: List[str], at: signal.Handlers) -> None:
         status = process.wait(SECONDS)
     except subprocess.TimeoutExpired:
         process.kill()
-        faults, status = b"", "hangs"
+        faults, status = b"", "hangs"  # type: ignore[assignment]
     expect(name, (line, faults, status), b"trace 1\n", b"", 1)
 
 
@@ -89,7 +89,7 @@ def test_parted() -> None:
 
     with open(work("long/part"), "wb") as file:
         got = run(["plan", complete], stdout=file, restore_signals=False, preexec_fn=leave)
-    with open(work("long/part"), "rb") as file:
+    with open(work("long/part"), "rb") as file:  # type: ignore[assignment]
         expect("a plan whose second part is refused", (file.read(), *got[1:]), want[:PART_BYTES], b"output unwritable\n", 1)
 
 

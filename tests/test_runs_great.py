@@ -55,7 +55,7 @@ def measured(words: List[str]) -> Tuple[Got, int]:
         with open(told) as line:
             status, kilobytes = (line.read() or "hangs 0").split()
         got = output.read(), faults.read(), status if status == "hangs" else int(status)
-    return got, int(kilobytes) * 1024
+    return got, int(kilobytes) * 1024  # type: ignore[return-value]
 
 
 def is_connected(nodes: List[str], links: Links) -> bool:
@@ -119,9 +119,9 @@ def test_alike() -> None:
             luck = random.Random(number)
             sim, live = drained(luck, list(nodes), links, every, packets)
             topology = put("topology", "".join(f"{u} {v}\n" for u, v in links))
-            want = run(["sim", *restamps, topology, put("sim", sim)])
-            got = run(["live", *restamps, topology, put("live", live)])
-            name = f"live as simulated, {len(nodes)} nodes, {packets} packets, {' '.join(restamps) or 'no restamps'}"
+            want = run(["sim", *restamps, topology, put("sim", sim)])  # type: ignore[misc]
+            got = run(["live", *restamps, topology, put("live", live)])  # type: ignore[misc]
+            name = f"live as simulated, {len(nodes)} nodes, {packets} packets, {' '.join(restamps) or 'no restamps'}"  # type: ignore[arg-type]
             expect_all(name, got, want)
             count(f"{name}: fates", None if b" down " in want[0] and b" delivered " in want[0] else brief(want[0]))
 
@@ -178,7 +178,7 @@ def test_long_scripts() -> None:
         script, rows, line = marked(ends, packet)
         files = [put("topology", topology), put("script", script)]
         for sub in ("sim", "live"):
-            got = run([sub, *words, *files])
+            got = run([sub, *words, *files])  # type: ignore[misc]
             expect_all(f"{sub} with {CHANGES + 1} marks of {ends}", got, (rows, f"refused {line} TooManyChanges\n".encode(), 0))
 
 
@@ -230,9 +230,9 @@ def test_edges() -> None:
                       ("check", ["none", "no-rows"])):
         words = [sub, "--kind", "tree", *(["--from", "a", "--to", "b"] if sub == "walk" else [])]
         line = f"topology {GRAPH_EDGES + 1} TooManyEdges\n".encode()
-        expect_all(f"{sub} of too many edges", run([*words, files[1], *rest]), (b"", line, 1))
+        expect_all(f"{sub} of too many edges", run([*words, files[1], *rest]), (b"", line, 1))  # type: ignore[misc]
         if rest:
-            got = run([*words, files[0], *rest])
+            got = run([*words, files[0], *rest])  # type: ignore[misc]
             expect_all(f"{sub} of as many edges as fit", got, (b"", b"opening TooLarge\n", 1))
 
 

@@ -101,7 +101,8 @@ def test_python() -> None:
 
 # Files that mypy reads together, as their names are those of modules, and where they look for modules.
 TYPED = [
-    (r"tests/(support/)?\w+(\.py)?$|completions/", "tests"),
+    (r"tests/(support/)?\w+(\.py)?$", "tests"),
+    (r"completions/", "tests"),
     (r"tests/oracle/", "tests"),
     (r"docs/", "docs"),
     (r"bench/[^/]*$", "bench"),

@@ -32,9 +32,9 @@ def test_words() -> None:
                       ("plan", b"--order"), ("stats", b"--with"), ("check", b"whether rows are missing"), ("check", b"--whole"),
                       ("check", b"NotYetInstalled")):
         help_text = run([sub, "--help"])[0]
-        count(f"what {sub} --help tells of", None if part in help_text else f"there is no {part}")
+        count(f"what {sub} --help tells of", None if part in help_text else f"there is no {part}")  # type: ignore[str-bytes-safe]
     for sub, parts in TEXTS.items():
-        files = [f"good/{name}" for name in NAMES[:parts]]
+        files = [f"good/{name}" for name in NAMES[:parts]]  # type: ignore[assignment]
         expect(f"{sub}: status 0", run(call(sub, files)), SOME, b"", 0)
         greatest = ["--threads", str(THREADS)] if parts == 1 else ["--capacity", str(CAPACITY), "--packets", str(PACKETS)]
         greatest += ["--restamps", str(RESTAMPS)] if parts == 2 else []
@@ -42,7 +42,7 @@ def test_words() -> None:
         least = ["--threads", "1"] if parts == 1 else ["--capacity", "1", "--packets", "1"]
         expect(f"{sub}: status 0 with the least", run(call(sub, files, *least)), SOME, b"", 0)
         expect(f"{sub}: status 1", run(call(sub, files, "--root", "z")), b"", b"opening NoNode\n", 1)
-        short_options(sub, files)
+        short_options(sub, files)  # type: ignore[arg-type]
     put("good/untrue", "trace 1\n0 1 a c 2 delivered a b\n")
     found = run(call("check", ["good/topology", "good/script", "good/untrue"]))
     expect("a finding: status 1", found, b"finding 2 NotAtDestination\n", b"", 1)
