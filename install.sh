@@ -100,7 +100,7 @@ case $name in
     *) own=route ;;
 esac
 
-# Writes a file with the program's name in place of `route`, where that stands as a word: `renamed FROM TO`.
+# Writes a file with the program's name in place of `route`, where that is a word: `renamed FROM TO`.
 renamed() {
     mkdir -p "$(dirname "$2")"
     upper=$(printf %s "$name" | tr '[:lower:]' '[:upper:]')

@@ -1,13 +1,15 @@
 #!/usr/bin/env python3
-"""Tells of how many nodes a plan of kind shortest makes the rows by searches of sixteen at a time, and of how many by one
+"""Prints of how many nodes a plan of kind shortest makes the rows by searches of sixteen at a time, and of how many by one
 search each, since their batch did not settle or went without: a row of Markdown for each network.
 
     batches.py [--program PATH] NETWORK ..
 
-NETWORK is a family of networks.py with its numbers, as `random:1024:8192`, and behind it `:weights` for random weights. The
+NETWORK is a family of networks.py with its numbers, as `random:1024:8192`, and after it `:weights` for random weights. The
 built program runs on one thread under valgrind, which counts the calls of its functions by their names; that takes
 fifty times as long as the plan. Outside the gate: it wants valgrind and the built program.
 """
+from __future__ import annotations
+
 import argparse
 import os
 import pathlib
@@ -15,14 +17,17 @@ import re
 import subprocess
 import sys
 import tempfile
+from typing import Any
 
 BENCH = pathlib.Path(__file__).resolve().parent
 ALONE, BATCH = "ir_plan::rows::searched_row", "ir_plan::batches::ways_from"
 
 
-def calls(profile):
-    """How often each function was called, by a profile of callgrind. A name stands whole where it comes first."""
-    names, count, called = {}, {}, None
+def calls(profile: Any) -> Any:
+    """How often each function was called, by a profile of callgrind. A name is written in full where it comes first."""
+    names: dict[Any, Any] = {}
+    count: dict[Any, Any] = {}
+    called = None
     for line in profile.splitlines():
         if line.startswith("cfn="):
             number, _, name = line[4:].partition(" ")
@@ -33,14 +38,14 @@ def calls(profile):
             names.setdefault(number, name)
         elif line.startswith("calls=") and called:
             count[called] = count.get(called, 0) + int(line[6:].split()[0])
-    found = {}
+    found: dict[Any, Any] = {}
     for number, name in names.items():
         plain = re.sub(r"\W?\d+$", "", name) if "'" in name else name
         found[plain] = found.get(plain, 0) + count.get(number, 0)
     return found
 
 
-def row(program, name, work):
+def row(program: Any, name: Any, work: Any) -> list[Any]:
     words = name.split(":")
     weights = words[-1] == "weights"
     made = [sys.executable, str(BENCH / "networks.py"), "--weights" if weights else "--units", *words[: len(words) - weights]]
@@ -60,7 +65,7 @@ def row(program, name, work):
     return [" ".join(words), f"{nodes:,}", f"{batches:,}", f"{nodes - alone:,}", f"{alone:,}"]
 
 
-def main():
+def main() -> None:
     parser = argparse.ArgumentParser(description=__doc__, formatter_class=argparse.RawDescriptionHelpFormatter)
     parser.add_argument("--program", default=os.environ.get("BENTZOLU_ROUTE", str(BENCH / "../crates/route/out/route")))
     parser.add_argument("networks", nargs="+", metavar="NETWORK")

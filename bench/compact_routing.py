@@ -11,6 +11,8 @@ to T. Landmarks are the program's default, or K. The mean of stretches is over P
 
 The program is that of BENTZOLU_ROUTE, else crates/route/out/route.
 """
+from __future__ import annotations
+
 import argparse
 import bisect
 import os
@@ -18,8 +20,8 @@ import pathlib
 import random
 import statistics
 import subprocess
-import sys
 import tempfile
+from typing import Any
 
 TOP = pathlib.Path(__file__).resolve().parents[1]
 PROGRAM = os.environ.get("BENTZOLU_ROUTE") or str(TOP / "crates/route/out/route")
@@ -28,7 +30,7 @@ HEADS = ("network", "nodes", "links", "mean stretch", "share of shortest", "entr
 THEIRS = ("theirs", "about 10,000", "", "about 1.1", "", "about 50", "", "")
 
 
-def degrees(luck, nodes):
+def degrees(luck: Any, nodes: Any) -> list[Any]:
     """The degree of each node by the power law, up to the greatest that one of so many is expected to have."""
     most = round(nodes ** (1 / (EXPONENT - 1)))
     total, below = 0.0, []
@@ -38,16 +40,17 @@ def degrees(luck, nodes):
     return [bisect.bisect_left(below, luck.random() * total) + 1 for _ in range(nodes)]
 
 
-def network(luck, nodes):
+def network(luck: Any, nodes: Any) -> list[Any]:
     """The links of the largest part, each from the lesser node to the greater."""
     ends = [u for u, degree in enumerate(degrees(luck, nodes)) for _ in range(degree)]
     luck.shuffle(ends)
     links = {(min(u, v), max(u, v)) for u, v in zip(ends[::2], ends[1::2]) if u != v}
-    near = {}
+    near: dict[Any, Any] = {}
     for u, v in links:
         near.setdefault(u, []).append(v)
         near.setdefault(v, []).append(u)
-    best, seen = set(), set()
+    best: set[Any] = set()
+    seen = set()
     for u in near:
         if u not in seen:
             part = set(distances(near, u))
@@ -56,7 +59,7 @@ def network(luck, nodes):
     return sorted(link for link in links if link[0] in best)
 
 
-def distances(near, source):
+def distances(near: Any, source: Any) -> Any:
     """The number of links to each node that a node has a path to."""
     far, ahead = {source: 0}, [source]
     for u in ahead:
@@ -67,7 +70,7 @@ def distances(near, source):
     return far
 
 
-def rows_of(text):
+def rows_of(text: Any) -> Any:
     """By node its label, the starts of its intervals, and their neighbours."""
     found = {}
     for line in text.splitlines()[1:]:
@@ -76,7 +79,7 @@ def rows_of(text):
     return found
 
 
-def walked(rows, source, target):
+def walked(rows: Any, source: Any, target: Any) -> Any:
     """The number of links of the walk between two nodes by their rows."""
     label, at, count = rows[target][0], source, 0
     while at != target:
@@ -85,11 +88,11 @@ def walked(rows, source, target):
     return count
 
 
-def measured(seed, words):
+def measured(seed: Any, words: Any) -> tuple[int, int, Any, Any, Any, Any, Any]:
     """The figures of a network: nodes, links, mean stretch of pairs, share of pairs with a shortest path, intervals, distance."""
     luck = random.Random(f"compact routing {seed}")
     links = network(luck, words.nodes)
-    near = {}
+    near: dict[Any, Any] = {}
     for u, v in links:
         near.setdefault(f"n{u}", []).append(f"n{v}")
         near.setdefault(f"n{v}", []).append(f"n{u}")
@@ -109,7 +112,7 @@ def measured(seed, words):
     return len(near), len(links), statistics.mean(ratios), shortest, statistics.mean(lengths), max(lengths), statistics.mean(far)
 
 
-def main():
+def main() -> None:
     words = argparse.ArgumentParser(description=__doc__, formatter_class=argparse.RawDescriptionHelpFormatter)
     words.add_argument("--nodes", type=int, default=10_000)
     words.add_argument("--networks", type=int, default=3)
@@ -124,4 +127,4 @@ def main():
 
 
 if __name__ == "__main__":
-    sys.exit(main())
+    main()

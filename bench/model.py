@@ -16,6 +16,8 @@ so `search` is the sweeps of the family, by the cost of one step. The residual i
 A fit on few sizes says of larger ones only that nothing else sets in; where caches end it does. Five minutes at most on a
 machine that is otherwise idle. Outside the gate: it wants GNU time and the built program.
 """
+from __future__ import annotations
+
 import argparse
 import math
 import os
@@ -23,12 +25,13 @@ import pathlib
 import subprocess
 import sys
 import tempfile
+from typing import Any
 
 BENCH = pathlib.Path(__file__).resolve().parent
 MOST_LINKS = 65_536  # of a topology; a hypercube of 16,384 nodes has more, and is left out
 
 
-def torus(n):
+def torus(n: Any) -> list[Any]:
     rows = 1 << (n.bit_length() - 1) // 2
     return ["torus", rows, n // rows]
 
@@ -48,11 +51,11 @@ FAMILIES = {
 # Least squares
 
 
-def solved(rows, right):
+def solved(rows: Any, right: Any) -> list[Any]:
     """The solution of a square system, by elimination."""
     rows = [row + [value] for row, value in zip(rows, right)]
     for i in range(len(rows)):
-        pivot = max(range(i, len(rows)), key=lambda k: abs(rows[k][i]))
+        pivot = max(range(i, len(rows)), key=lambda k: abs(rows[k][i]))  # type: ignore[no-any-return]
         rows[i], rows[pivot] = rows[pivot], rows[i]
         if rows[i][i] == 0:
             rows[i][i] = 1e-300
@@ -63,7 +66,7 @@ def solved(rows, right):
     return [row[-1] / row[i] for i, row in enumerate(rows)]
 
 
-def fitted(rows, right):
+def fitted(rows: Any, right: Any) -> list[Any]:
     """The coefficients, none below 0, by which the rows give the right sides with the least squares of relative errors."""
     scaled = [[x / value for x in row] for row, value in zip(rows, right)]
     used = [j for j in range(len(rows[0])) if any(row[j] for row in rows)]
@@ -75,14 +78,14 @@ def fitted(rows, right):
         below = [j for j in used if found[j] < 0]
         if not below:
             return [found[j] / sizes[j] if j in found else 0.0 for j in range(len(rows[0]))]
-        used.remove(min(below, key=lambda j: found[j]))
+        used.remove(min(below, key=lambda j: found[j]))  # type: ignore[no-any-return]
 
 
-def product(row, coefficients):
+def product(row: Any, coefficients: Any) -> Any:
     return sum(x * y for x, y in zip(row, coefficients))
 
 
-def residual(rows, right, coefficients):
+def residual(rows: Any, right: Any, coefficients: Any) -> Any:
     return max(abs(product(row, coefficients) / value - 1) for row, value in zip(rows, right))
 
 
@@ -92,21 +95,21 @@ def residual(rows, right, coefficients):
 class Point:
     """What was measured of a network of a family."""
 
-    def __init__(self, family, nodes, links):
+    def __init__(self, family: Any, nodes: Any, links: Any) -> None:
         self.family, self.nodes, self.links = family, nodes, links
         self.starts = 0
         self.seconds = math.inf
         self.megabytes = 0.0
 
-    def time_terms(self, families):
+    def time_terms(self, families: Any) -> list[Any]:
         searches = [self.nodes * (self.nodes + 2 * self.links) * (self.family == family) for family in families]
         return [*searches, self.starts, self.nodes + self.links]
 
-    def memory_terms(self):
+    def memory_terms(self) -> list[Any]:
         return [1, self.starts, self.nodes + self.links, self.nodes]
 
 
-def links_of(family, n):
+def links_of(family: Any, n: Any) -> Any:
     """How many links a network of so many nodes has."""
     if family.startswith("random"):
         return 4 * n
@@ -115,28 +118,28 @@ def links_of(family, n):
     return 2 * n if family.startswith(("torus", "scale-free")) else n - 1
 
 
-def network(family, n, work):
+def network(family: Any, n: Any, work: Any) -> tuple[Any, Any]:
     option, words = FAMILIES[family]
     file = f"{work}/{family}.{n}"
     with open(file, "w", encoding="ascii") as out:
-        subprocess.run([sys.executable, str(BENCH / "networks.py"), *option, *map(str, words(n))], stdout=out, check=True)
+        subprocess.run([sys.executable, str(BENCH / "networks.py"), *option, *map(str, words(n))], stdout=out, check=True)  # type: ignore[no-untyped-call]
     lines = [line.split() for line in pathlib.Path(file).read_text(encoding="ascii").splitlines() if line[0] != "#"]
     return file, Point(family, len({end for line in lines for end in line[:2]}), len(lines))
 
 
-def measure(program, file, point, work):
-    """One run; the first line of a plan tells its starts."""
+def measure(program: Any, file: Any, point: Any, work: Any) -> None:
+    """One run; the first line of a plan gives its starts."""
     command = ["/usr/bin/time", "-o", f"{work}/time", "-f", "%U %S %M", program, "plan", "--format", "edgelist", "--threads", "1", file]
     with subprocess.Popen(command, stdout=subprocess.PIPE) as process:
-        point.starts = int(process.stdout.readline().split()[3])
-        while process.stdout.read(1 << 20):
+        point.starts = int(process.stdout.readline().split()[3])  # type: ignore[union-attr]
+        while process.stdout.read(1 << 20):  # type: ignore[union-attr]
             pass
     user, system, kilobytes = pathlib.Path(f"{work}/time").read_text(encoding="ascii").split()
     point.seconds = max(0.001, min(point.seconds, float(user) + float(system)))
     point.megabytes = max(point.megabytes, int(kilobytes) / 1024)
 
 
-def points_of(families, arguments, work):
+def points_of(families: Any, arguments: Any, work: Any) -> list[Any]:
     sizes = [n for n in (1024, 2048, 4096, 8192, 16384) if n <= arguments.most]
     made = [network(family, n, work) for family in families for n in sizes]
     made = [(file, point) for file, point in made if point.links <= MOST_LINKS]
@@ -151,7 +154,7 @@ def points_of(families, arguments, work):
 # What it says
 
 
-def power(points):
+def power(points: Any) -> tuple[Any, Any, Any]:
     """k and e of s = k * n^e, and the greatest relative error."""
     xs, ys = [math.log(p.nodes) for p in points], [math.log(max(1, p.starts)) for p in points]
     x, y = sum(xs) / len(xs), sum(ys) / len(ys)
@@ -160,13 +163,13 @@ def power(points):
     return k, e, max(abs(k * p.nodes**e / max(1, p.starts) - 1) for p in points)
 
 
-def print_measured(points):
+def print_measured(points: Any) -> None:
     print("| network | nodes, links | starts | seconds of a processor | MB |\n|---|---|---|---|---|")
     for p in points:
         print(f"| {p.family} | {p.nodes:,}, {p.links:,} | {p.starts:,} | {p.seconds:.3g} | {p.megabytes:.0f} |")
 
 
-def print_model(families, points):
+def print_model(families: Any, points: Any) -> None:
     rows, right = [p.time_terms(families) for p in points], [p.seconds for p in points]
     times = fitted(rows, right)
     sizes, megabytes = [p.memory_terms() for p in points], [p.megabytes for p in points]
@@ -188,7 +191,7 @@ def print_model(families, points):
         print(f"| {family} | {times[place] * 1e12:.3g} | {k:.3g} n^{e:.2f} | {error:.0%} | " + " | ".join(told) + " |")
 
 
-def main():
+def main() -> None:
     parser = argparse.ArgumentParser(description=__doc__, formatter_class=argparse.RawDescriptionHelpFormatter)
     parser.add_argument("--turns", type=int, default=2)
     parser.add_argument("--most", type=int, default=16384, metavar="NODES")

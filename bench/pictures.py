@@ -3,11 +3,14 @@
 
 Outside the gate: it wants python3, the built program, and Graphviz's dot.
 """
+from __future__ import annotations
+
 import itertools
 import math
 import pathlib
 import re
 import subprocess
+from typing import Any
 
 HERE = pathlib.Path(__file__).parent
 PROGRAM = HERE / "../crates/route/out/route"
@@ -30,21 +33,21 @@ TITLE = '  "{0}" [shape=plaintext, style="", fontsize=15, label="{0}", pos="6.2,
 SIDES = [(side * angle, distance / 10) for distance in (20, 26, 32, 40, 50, 62) for angle in (25, 40, 15, 60, 80) for side in (-1, 1)]
 
 
-def dot(form, statements):
+def dot(form: Any, statements: Any) -> Any:
     """What Graphviz makes of a drawing."""
     return subprocess.run(["dot", "-Kneato", f"-T{form}"], input=STYLE + statements + "}\n", capture_output=True, text=True, check=True).stdout
 
 
-def box(x, y, width, height):
+def box(x: Any, y: Any, width: Any, height: Any) -> tuple[Any, Any, Any, Any]:
     return x - width / 2, y - height / 2, x + width / 2, y + height / 2
 
 
-def common(a, b):
+def common(a: Any, b: Any) -> Any:
     """The area that two boxes have in common."""
     return max(0, min(a[2], b[2]) - max(a[0], b[0])) * max(0, min(a[3], b[3]) - max(a[1], b[1]))
 
 
-def label_boxes(line, ends, side):
+def label_boxes(line: Any, ends: Any, side: Any) -> Any:
     """Where Graphviz puts the labels at both ends of a link: at an angle to the link and a distance from its end, in points."""
     angle, distance = side
     boxes = []
@@ -55,21 +58,21 @@ def label_boxes(line, ends, side):
     return boxes
 
 
-def crossings(a, ends):
+def crossings(a: Any, ends: Any) -> Any:
     """How many of forty points of a link lie in a box."""
     (x, y), (u, v) = ends
     return sum(a[0] < x + (u - x) * i / 40 < a[2] and a[1] < y + (v - y) * i / 40 < a[3] for i in range(41))
 
 
-def away(a, ends):
+def away(a: Any, ends: Any) -> Any:
     """How far the middle of a box is from a link."""
-    at, (x, y), (u, v) = ((a[0] + a[2]) / 2, (a[1] + a[3]) / 2), *ends
+    at, ((x, y), (u, v)) = ((a[0] + a[2]) / 2, (a[1] + a[3]) / 2), ends
     along = ((at[0] - x) * (u - x) + (at[1] - y) * (v - y)) / ((u - x) ** 2 + (v - y) ** 2)
     along = min(1, max(0, along))
     return math.dist(at, (x + along * (u - x), y + along * (v - y)))
 
 
-def parted(statements):
+def parted(statements: Any) -> Any:
     """The statements with the labels at the ends of links put where they cover no node, no other label and few links, and each is nearest to its own."""
     taken, ends = [], []
     for words in (re.findall(r'"[^"]*"|\S+', line) for line in dot("plain", statements).splitlines()):
@@ -84,7 +87,7 @@ def parted(statements):
     lines = [it for it in statements.splitlines() if " -- " in it]
     chosen = [SIDES[0]] * len(lines)
 
-    def cost(i, side):
+    def cost(i: Any, side: Any) -> Any:
         others = [it for j in range(len(lines)) if j != i for it in label_boxes(lines[j], ends[j], chosen[j])]
         boxes = label_boxes(lines[i], ends[i], side)
         covered = common(*boxes) + sum(common(a, b) for a in boxes for b in itertools.chain(taken, others))
@@ -93,13 +96,13 @@ def parted(statements):
 
     for _ in range(4):
         for i in range(len(lines)):
-            chosen[i] = min(SIDES, key=lambda side, i=i: cost(i, side))
+            chosen[i] = min(SIDES, key=lambda side, i=i: cost(i, side))  # type: ignore[misc]
     for line, (angle, distance) in zip(lines, chosen):
         statements = statements.replace(line, line.replace("];", f", labelangle={angle}, labeldistance={distance}];"))
     return statements
 
 
-def drawn(words, name="", up=0.0, color="black"):
+def drawn(words: Any, name: str = "", up: float = 0.0, color: str = "black") -> Any:
     """The statements of a drawing, each node at its place and under a name of its own, and the walk in a colour."""
     words = [PROGRAM, "draw", "--format", "edgelist", "--root", "Houston", *words.split(), TOPOLOGY]
     lines = subprocess.run(words, capture_output=True, text=True, check=True).stdout.splitlines()[1:-1]
@@ -113,7 +116,7 @@ def drawn(words, name="", up=0.0, color="black"):
     return text
 
 
-def save(name, statements):
+def save(name: Any, statements: Any) -> None:
     (DOCS / name).write_text(dot("svg", parted(statements)))
 
 

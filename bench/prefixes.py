@@ -3,30 +3,33 @@
 
 For each of so many random networks of up to 40 nodes, with a kind and a root by chance, the rows of `route plan` say
 which neighbour each label is to have. The lines of `route prefixes`, and those of `--disjoint`, must give each label
-that neighbour and the numbers beyond the labels what the definition says, stand in their order, keep their matches
+that neighbour and the numbers beyond the labels what the definition says, are in their order, keep their matches
 while only the first are there, and be as few as a plain dynamic program over all blocks and all inherited neighbours
 finds; in networks of up to eight nodes also as few as a search over all sets of prefixes finds. Outside the gate: it
 wants python3 and the built program."""
+from __future__ import annotations
+
 import functools
 import itertools
 import pathlib
 import random
 import subprocess
 import sys
+from typing import Any
 
 DEFAULT = pathlib.Path(__file__).parent / "../crates/route/out/route"
 UNREACHABLE = "#"
 SEARCHED_BITS = 3
 
 
-def network(draw):
-    """A connected network as text, with the words that tell its format, and the neighbours of each node."""
+def network(draw: Any) -> tuple[str, list[Any], Any]:
+    """A connected network as text, with the words that name its format, and the neighbours of each node."""
     count = draw.choice((draw.randint(1, 8), draw.randint(1, 40)))
     links = [(draw.randrange(i), i) for i in range(1, count)]
     links += [(draw.randrange(count), draw.randrange(count)) for _ in range(draw.randint(0, 2 * count))]
     links = list({frozenset(link): link for link in links if link[0] != link[1]}.values())
     draw.shuffle(links)
-    near = {f"n{i}": set() for i in range(count)}
+    near: Any = {f"n{i}": set() for i in range(count)}
     for a, b in links:
         near[f"n{a}"].add(f"n{b}")
         near[f"n{b}"].add(f"n{a}")
@@ -36,7 +39,7 @@ def network(draw):
     return "".join(f"n{a} n{b} {draw.randint(1, greatest)}\n" for a, b in links), ["--format", "edgelist"], near
 
 
-def rows_of(text):
+def rows_of(text: Any) -> tuple[Any, Any, Any]:
     """The kind, the labels, and each node's neighbour to each label, None to its own; from the text of `route plan`."""
     head, *lines = text.splitlines()
     count, labels, wanted = int(head.split(" ")[2]), {}, {}
@@ -45,11 +48,11 @@ def rows_of(text):
         row = list(zip(map(int, words[::2]), words[1::2]))
         to = lambda x: ([port for start, port in row if start <= x] or [row[-1][1]])[-1]
         labels[name] = int(label)
-        wanted[name] = [None if x == int(label) else to(x) for x in range(count)]
+        wanted[name] = [None if x == int(label) else to(x) for x in range(count)]  # type: ignore[no-untyped-call]
     return head.split(" ")[1], labels, wanted
 
 
-def tables_of(text):
+def tables_of(text: Any) -> tuple[Any, Any]:
     """The words of the first line, and the lines (value, length, neighbour) of each node, with its label."""
     head, *lines = text.splitlines()
     tables = {}
@@ -60,25 +63,25 @@ def tables_of(text):
     return head.split(" "), tables
 
 
-def matches(lines, bits):
+def matches(lines: Any, bits: Any) -> Any:
     """For each number the lines that hold it, the longest first."""
-    held = [[] for _ in range(2**bits)]
-    for line in sorted(lines, key=lambda line: -line[1]):
+    held: Any = [[] for _ in range(2**bits)]
+    for line in sorted(lines, key=lambda line: -line[1]):  # type: ignore[no-any-return]
         for x in range(line[0], line[0] + 2 ** (bits - line[1])):
             held[x].append(line)
     return held
 
 
-def is_well(lines, bits, near):
+def is_well(lines: Any, bits: Any, near: Any) -> Any:
     """Each line is a prefix of so many bits and goes to a neighbour, none twice, the longest first, then by value."""
     fits = lambda value, length: length <= bits and 0 <= value < 2**bits and value % 2 ** (bits - length) == 0
-    shapes = [fits(value, length) for value, length, _ in lines]
+    shapes = [fits(value, length) for value, length, _ in lines]  # type: ignore[no-untyped-call]
     order = [(-length, value) for value, length, _ in lines]
     rises = all(a < b for a, b in zip(order, order[1:]))
     return all(shapes) and rises and {to for _, _, to in lines} <= near | {UNREACHABLE}
 
 
-def means(lines, wanted, bits):
+def means(lines: Any, wanted: Any, bits: Any) -> bool:
     """What `route prefixes` promises of a node's lines; wanted goes on to the numbers beyond the labels."""
     whole = matches(lines, bits)
     for x, to in enumerate(wanted):
@@ -91,7 +94,7 @@ def means(lines, wanted, bits):
     return True
 
 
-def means_disjoint(lines, wanted, bits, count):
+def means_disjoint(lines: Any, wanted: Any, bits: Any, count: Any) -> bool:
     """The same for `--disjoint`: wanted is None beyond the labels."""
     for x, held in enumerate(matches(lines, bits)):
         if len(held) > 1 or (x >= count and held):
@@ -101,22 +104,22 @@ def means_disjoint(lines, wanted, bits, count):
     return True
 
 
-def fewest(wanted, bits):
+def fewest(wanted: Any, bits: Any) -> Any:
     """How few lines do; None is wanted where any line does, and none."""
     names = set(wanted) - {None}
 
     @functools.lru_cache(None)
-    def cost(low, size, above):
+    def cost(low: Any, size: Any, above: Any) -> Any:
         if size == 1:
             return int(wanted[low] not in (None, above))
         halves = lambda port: cost(low, size // 2, port) + cost(low + size // 2, size // 2, port)
-        return min([halves(above)] + [1 + halves(port) for port in names])
+        return min([halves(above)] + [1 + halves(port) for port in names])  # type: ignore[no-untyped-call]
 
     return cost(0, 2**bits, None)
 
 
-def fewest_disjoint(wanted, bits, count):
-    def cost(low, size):
+def fewest_disjoint(wanted: Any, bits: Any, count: Any) -> Any:
+    def cost(low: Any, size: Any) -> Any:
         names = set(wanted[low : low + size]) - {None}
         if not names:
             return 0
@@ -128,7 +131,7 @@ def fewest_disjoint(wanted, bits, count):
 
 
 @functools.lru_cache(None)
-def sets(bits):
+def sets(bits: Any) -> Any:
     """All sets of prefixes, the small ones first: for each its size, the longest match of each number (or None), and
     whether no number is held twice."""
     prefixes = [(value << (bits - length), length, None) for length in range(bits + 1) for value in range(2**length)]
@@ -141,10 +144,10 @@ def sets(bits):
     return found
 
 
-def searched(wanted, bits, count, is_disjoint):
+def searched(wanted: Any, bits: Any, count: Any, is_disjoint: Any) -> Any:
     """The size of the smallest of all sets of prefixes that does; with is_disjoint of those with no number twice."""
     for size, longest, is_apart in sets(bits):
-        names = {}
+        names: dict[Any, Any] = {}
         for x, line in enumerate(longest):
             names.setdefault(line, set()).add(wanted[x])
         without = names.pop(None, set()) - {None}
@@ -154,18 +157,18 @@ def searched(wanted, bits, count, is_disjoint):
             return size
 
 
-def demand(holds, what):
+def demand(holds: Any, what: Any) -> None:
     if not holds:
         raise AssertionError(what)
 
 
-def compare(program, seed):
+def compare(program: Any, seed: Any) -> tuple[Any, Any]:
     """One random plan; how many lines it has, and how many disjoint ones."""
     draw = random.Random(seed)
     text, words, near = network(draw)
     words += ["--kind", draw.choice(("tree", "shortest", "compact")), "--root", draw.choice(sorted(near))]
 
-    def ask(*front):
+    def ask(*front: Any) -> Any:
         command = [program, *front, *words, "-"]
         return subprocess.run(command, input=text, stdout=subprocess.PIPE, text=True, check=True).stdout
 
@@ -194,7 +197,7 @@ def compare(program, seed):
     return count, totals
 
 
-def main():
+def main() -> None:
     plans = int(sys.argv[1]) if len(sys.argv) > 1 else 500
     program = sys.argv[2] if len(sys.argv) > 2 else str(DEFAULT)
     rows = small = lines = disjoint = 0

@@ -10,11 +10,14 @@ trace, of each kind over depth-first numbers and a tour. The status is 0 where a
 
 Outside the gate: it wants python3 and two built programs.
 """
+from __future__ import annotations
+
 import os
 import random
 import subprocess
 import sys
 import tempfile
+from typing import Any, Iterator
 
 sys.dont_write_bytecode = True
 import networks  # noqa: E402
@@ -26,14 +29,14 @@ GREAT = 30  # the network of each number that this divides has hundreds of nodes
 SECONDS = 600  # the most that a run may take
 
 
-def network(luck, number):
+def network(luck: Any, number: Any) -> tuple[list[Any], Any]:
     """A network's nodes and links, as names: of a family of networks.py, or drawn link by link, maybe in two parts."""
     great = number % GREAT == 0
     size = luck.randrange(260, 400) if great else luck.randrange(2, 41)
     side = max(2, int(size ** 0.5))
     family = luck.choice(["ring", "grid", "torus", "hypercube", "clos", "tree", "random", "random", "scalefree", "parts"])
     random.seed(number)
-    _, links = {
+    _, links = {  # type: ignore[no-untyped-call]
         "ring": lambda: networks.ring(size),
         "grid": lambda: networks.grid(side, side),
         "torus": lambda: networks.torus(max(3, side), max(3, side)),
@@ -49,7 +52,7 @@ def network(luck, number):
     return list(dict.fromkeys(name for link in links for name in link)), links
 
 
-def topology(luck, links):
+def topology(luck: Any, links: Any) -> Any:
     """The text of a network and its format: weights of one, few, so that ways tie, or many."""
     most = luck.choice([None, 1, 3, 65_535])
     if most is None:
@@ -57,7 +60,7 @@ def topology(luck, links):
     return "".join(f"{u} {v} {luck.randint(1, most)}\n" for u, v in links), "edgelist"
 
 
-def script(luck, nodes, links):
+def script(luck: Any, nodes: Any, links: Any) -> Any:
     """Lines of a simulation: packets, changes, installs that are learnt or not, single steps, drains."""
     lines, epoch = [], 1
     for _ in range(luck.randrange(5, 80 if len(nodes) < 100 else 12)):
@@ -82,7 +85,7 @@ def script(luck, nodes, links):
     return "\n".join(lines + luck.choice([[], ["drain"]])) + "\n"
 
 
-def runs_of_plans(luck, nodes, form):
+def runs_of_plans(luck: Any, nodes: Any, form: Any) -> Iterator[Any]:
     """The words of each run over a plan."""
     root = luck.choice(nodes)
     ends = ["--from", luck.choice(nodes), "--to", luck.choice(nodes)]
@@ -94,7 +97,7 @@ def runs_of_plans(luck, nodes, form):
             yield [sub, *words, *more, "topology"]
 
 
-def runs_of_scripts(luck, nodes, form):
+def runs_of_scripts(luck: Any, nodes: Any, form: Any) -> Iterator[Any]:
     """The words of each run of a script, without its files, and those of the simulation alone."""
     for kind, numbering in NUMBERED:
         if numbering != "order":
@@ -106,16 +109,16 @@ def runs_of_scripts(luck, nodes, form):
 class Both:
     """Two programs in one folder: how many runs there were, how many of them were refused, and what differed."""
 
-    def __init__(self, programs, folder):
+    def __init__(self, programs: Any, folder: Any) -> None:
         self.programs, self.folder = programs, folder
         self.runs = self.refused = 0
-        self.differing = []
+        self.differing: list[Any] = []
 
-    def put(self, name, text):
+    def put(self, name: Any, text: Any) -> None:
         with open(os.path.join(self.folder, name), "wb") as file:
             file.write(text if isinstance(text, bytes) else text.encode())
 
-    def run(self, number, words):
+    def run(self, number: Any, words: Any) -> Any:
         """What the first prints; the second has to do the same."""
         ends = []
         for program in self.programs:
@@ -130,7 +133,7 @@ class Both:
         return ends[0][0]
 
 
-def compare(both, number):
+def compare(both: Any, number: Any) -> None:
     """All runs over the network of this number."""
     luck = random.Random(number)
     nodes, links = network(luck, number)
@@ -145,7 +148,7 @@ def compare(both, number):
         both.run(number, ["check", *words, "topology", "script", "trace"])
 
 
-def main(words):
+def main(words: Any) -> Any:
     if len(words) < 2:
         sys.exit(__doc__)
     programs = [os.path.abspath(word) for word in words[:2]]

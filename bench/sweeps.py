@@ -9,6 +9,8 @@
 
 Rows have medians. Seconds of a processor are those of all processes; under load they grow less than seconds by the clock.
 """
+from __future__ import annotations
+
 import concurrent.futures
 import itertools
 import pathlib
@@ -18,6 +20,7 @@ import statistics
 import subprocess
 import sys
 import time
+from typing import Any
 
 HERE = pathlib.Path(__file__).resolve().parent
 sys.dont_write_bytecode = True
@@ -29,18 +32,18 @@ import networks  # noqa: E402
 EXAMPLES = HERE.parent / "examples"
 
 
-def made(family, *numbers):
+def made(family: Any, *numbers: Any) -> list[Any]:
     random.seed(1)
     return [link[:2] for link in networks.FAMILIES[family](*numbers)[1]]
 
 
-def processor():
+def processor() -> tuple[Any, Any]:
     """Seconds of a processor of this process, and of those that it waited for."""
     own, others = resource.getrusage(resource.RUSAGE_SELF), resource.getrusage(resource.RUSAGE_CHILDREN)
     return own.ru_utime + own.ru_stime, others.ru_utime + others.ru_stime
 
 
-def cost(turns):
+def cost(turns: Any) -> None:
     nets = [("nsfnet 14/21", EXAMPLES / "nsfnet.edgelist", None), ("random 128/256", made("random", 128, 256), 40), ("random 256/1,024", made("random", 256, 1024), 10),
             ("constellation 1,584", EXAMPLES / "constellation.adjlist", 4)]
     for name, graph, count in nets:
@@ -54,14 +57,14 @@ def cost(turns):
             print(f"{name}, {kind}: python {statistics.median(own):.1f} ms, program {statistics.median(others):.1f} ms", flush=True)
 
 
-def links_of(graph):
+def links_of(graph: Any) -> list[Any]:
     from bentzolu.network import network_of
 
     net = network_of(graph)
     return [(net.nodes[u], net.nodes[v]) for u, v, _ in net.links]
 
 
-def once(graph, failures, kind):
+def once(graph: Any, failures: Any, kind: Any) -> tuple[Any, Any]:
     before = processor()
     bentzolu.sweep(graph, failures, kind)
     after = processor()
@@ -105,7 +108,7 @@ def processes(turns):
         print(f"{jobs} processes: {clock:.2f} s, least {min(it[0] for it in times):.2f} s; {used:.2f} s of a processor", flush=True)
 
 
-def spin(task, part):
+def spin(task: Any, part: Any) -> int:
     """0.2 s of a processor."""
     end = time.process_time() + 0.2
     while time.process_time() < end:
@@ -113,7 +116,7 @@ def spin(task, part):
     return len(part)
 
 
-def dask(turns):
+def dask(turns: Any) -> None:
     import distributed
     from bentzolu.spreading import spread
 
@@ -141,7 +144,7 @@ def dask(turns):
     print(f"dask has {statistics.median(a / b for a, b in zip(found['processes'], found['dask'])):.2f} of the speed of processes")
 
 
-def memory():
+def memory() -> None:
     for kind in ("shortest", "compact", "tree"):
         code = (
             f"import sys, resource; sys.path[:0] = {sys.path[:2]!r}; import bentzolu; "
@@ -151,7 +154,7 @@ def memory():
         print(f"{kind}: {subprocess.run([sys.executable, '-c', code], capture_output=True, text=True, check=True).stdout.strip()} MB", flush=True)
 
 
-def main():
+def main() -> None:
     what, turns = sys.argv[1], int(sys.argv[2]) if len(sys.argv) > 2 else 3
     {"cost": cost, "each": each, "processes": processes, "dask": dask, "memory": lambda _: memory()}[what](turns)
 

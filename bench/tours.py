@@ -7,11 +7,13 @@ N runs, 300 if that isn't said, from that of number S on, 0 if that isn't said; 
 has a network of 100 to 1,000 nodes, of a family of networks.py, with weights of one, few, so that ways tie, or many; the
 kind compact and a tour; packets of epoch 1, and of an epoch 2 from another root. A run passes where `route check` finds
 nothing in the trace, all packets are in it and are delivered, and the hops and the weight of each are those that
-`route walk` tells of its epoch. Each run that fails is told, and the last line is `N passed, M failed`.
+`route walk` prints for its epoch. Each run that fails is reported, and the last line is `N passed, M failed`.
 
 Outside the gate: it wants python3 and the built program, which the variable BENTZOLU_ROUTE names, else
 crates/route/out/route.
 """
+from __future__ import annotations
+
 import argparse
 import os
 import pathlib
@@ -19,6 +21,7 @@ import random
 import subprocess
 import sys
 import tempfile
+from typing import Any
 
 sys.dont_write_bytecode = True
 import networks  # noqa: E402
@@ -29,7 +32,7 @@ SECONDS = 600  # the most that a call may take
 BY_TOUR = ["--format", "edgelist", "--kind", "compact", "--numbering", "tour"]
 
 
-def network(luck, size):
+def network(luck: Any, size: Any) -> Any:
     """Links of a connected network of about so many nodes."""
     side = max(2, int(size ** 0.5))
     random.seed(luck.random())
@@ -44,18 +47,18 @@ def network(luck, size):
     ])()[1]
 
 
-def call(*words):
+def call(*words: Any) -> Any:
     done = subprocess.run([PROGRAM, *words], capture_output=True, text=True, timeout=SECONDS)
     return done.stdout if done.returncode == 0 and not done.stderr else f"status {done.returncode}: {done.stdout}{done.stderr}"
 
 
-def walked(topology, root, start, end):
+def walked(topology: Any, root: Any, start: Any, end: Any) -> list[Any]:
     """The weight and the hops of a walk, as words."""
     head, *nodes = call("walk", *BY_TOUR, "--root", root, "--from", start, "--to", end, topology).splitlines()
     return [head.split()[-1], *(line.split()[0] for line in nodes)]
 
 
-def wrong(luck, least, most, folder):
+def wrong(luck: Any, least: Any, most: Any, folder: Any) -> Any:
     """What is wrong with a run, or nothing."""
     links = network(luck, luck.randint(least, most))
     names = list(dict.fromkeys(name for link in links for name in link))

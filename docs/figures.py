@@ -5,9 +5,12 @@
 
 makes those that are named, or all. It needs the program, NumPy and matplotlib; it takes about two minutes of one processor.
 """
+from __future__ import annotations
+
 import pathlib
 import random
 import sys
+from typing import Any
 
 HERE = pathlib.Path(__file__).resolve().parent
 sys.dont_write_bytecode = True
@@ -33,17 +36,18 @@ FAMILIES = {
 }
 
 
-def made(family, *numbers):
+def made(family: Any, *numbers: Any) -> list[Any]:
     """The links of a network of bench/networks.py."""
     random.seed(1)
     return [link[:2] for link in networks.FAMILIES[family](*numbers)[1]]
 
 
-def sizes():
+def sizes() -> Any:
     """The bits of a node's row, and of its full table, over families of networks."""
-    rows, tables = {}, {}
+    rows: dict[Any, Any] = {}
+    tables: dict[Any, Any] = {}
     for label, (numbering, family) in FAMILIES.items():
-        for words in family:
+        for words in family:  # type: ignore[attr-defined]
             graph = made(*words)
             ports = ports_of(graph, None)
             plan = bentzolu.plan(graph, "compact", words=("--numbering", numbering))
@@ -55,7 +59,7 @@ def sizes():
     return figure
 
 
-def failures():
+def failures() -> Any:
     """The worst failures of NSFNET by name, and the stretch of all."""
     rows = bentzolu.sweep(HERE.parent / "examples/nsfnet.edgelist", kind="compact")
     figure, (left, right) = plt.subplots(1, 2, figsize=(9.6, 3.4), layout="constrained", width_ratios=(3, 2))
@@ -64,7 +68,7 @@ def failures():
     return figure
 
 
-def orbit():
+def orbit() -> Any:
     """The rows of a shell of 66 satellites over an orbit, and what is sent at each change."""
     shell = bentzolu.Shell(6, 11, 2, 86.4, 780, star=True)
     line = bentzolu.Timeline.of_shell(shell, 60, 1, 60)
@@ -81,7 +85,7 @@ def orbit():
 FIGURES = {"sizes": sizes, "failures": failures, "orbit": orbit}
 
 
-def main():
+def main() -> None:
     plt.rcParams.update({"font.size": 9, "axes.spines.top": False, "axes.spines.right": False})
     wanted = sys.argv[1:] or list(FIGURES)
     unknown = [name for name in wanted if name not in FIGURES]

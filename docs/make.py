@@ -1,17 +1,20 @@
 #!/usr/bin/env python3
-"""Makes the pages that are generated, from the sources: docs/make.py writes them, docs/make.py --check tells which differ.
+"""Makes the pages that are generated, from the sources: docs/make.py writes them, docs/make.py --check says which differ.
 
 docs/BELIEVE.md has the definitions that the contract of `play` reaches, in reading order, and what further calls add.
 docs/DEFINITIONS.md has all pages of definitions, by the comments over them, with the terms and sources, and what is
 said of definitions without a comment, of docs/definitions.json. Each crates/NAME/README.md has its public calls below a
-mark, by their doc comments and the names of their clauses; what stands above the mark is written by hand.
+mark, by their doc comments and the names of their clauses; what is above the mark is written by hand.
 """
+from __future__ import annotations
+
 import glob
 import json
 import os
 import re
 import sys
 import textwrap
+from typing import Any
 
 sys.dont_write_bytecode = True
 sys.path.insert(0, os.path.dirname(os.path.abspath(__file__)))
@@ -33,12 +36,12 @@ FURTHER = [
 IN_FEW_WORDS = ("ir_cli", "ir_answer", "ir_shell")  # of their further definitions the names alone
 
 
-def wrapped(text, first="", later=None):
-    """A paragraph within the width; what stands between backticks is broken too."""
+def wrapped(text: Any, first: str = "", later: Any = None) -> Any:
+    """A paragraph within the width; what is between backticks is broken too."""
     return textwrap.fill(text, WIDTH, initial_indent=first, subsequent_indent=first if later is None else later, break_long_words=False, break_on_hyphens=False)
 
 
-def code(lines):
+def code(lines: Any) -> list[Any]:
     """Lines of a source as a block, of which those that are too long are broken."""
     out = []
     for line in lines:
@@ -54,7 +57,7 @@ def code(lines):
     return ["```", *out, "```"]
 
 
-def sentence(text):
+def sentence(text: Any) -> Any:
     """A comment as a sentence."""
     text = text.strip()
     if text and text[0].islower() and not re.match(r"\w*[_`(]|\w+'", text):
@@ -62,19 +65,19 @@ def sentence(text):
     return text if not text or text.endswith((".", ":", "?")) else text + "."
 
 
-def first_of(text):
+def first_of(text: Any) -> Any:
     """The first sentence of a comment."""
     return sentence(re.split(r"(?<=[.:]) (?=[A-Z`])", text.strip())[0])
 
 
-def link(page):
+def link(page: Any) -> str:
     return f"[{page.name}](../{page.path})"
 
 
 # What must be believed
 
 
-def place_of(call, crate):
+def place_of(call: Any, crate: Any) -> tuple[Any, Any]:
     """The source that has a call of a crate, and the call's own name."""
     owner, _, name = call.rpartition("::")
     for path in sorted(glob.glob(f"crates/{crate}/src/**/*.rt", recursive=True)):
@@ -85,13 +88,13 @@ def place_of(call, crate):
     raise LookupError(f"no call {call} in {crate}")
 
 
-def contract(path, call):
-    """A call's signature and contract, as they stand."""
+def contract(path: Any, call: Any) -> Any:
+    """A call's signature and contract, as they are."""
     found = re.search(rf"^( *)pub fn {call}\b.*?^\1(?=\{{)", specs.text_of(path), flags=re.M | re.S)
-    return textwrap.dedent(found[0]).rstrip().split("\n")
+    return textwrap.dedent(found[0]).rstrip().split("\n")  # type: ignore[index]
 
 
-def declaration(path, name):
+def declaration(path: Any, name: Any) -> list[Any]:
     """A type's declaration, with its doc comment."""
     lines = specs.text_of(path).split("\n")
     at = next(k for k, line in enumerate(lines) if re.match(rf"(?:pub(?:\(crate\))? )?(?:struct|enum|trait) {name}\b", line))
@@ -104,19 +107,19 @@ def declaration(path, name):
     return [line for line in lines[begin : end + 1] if not line.startswith("#[")]
 
 
-def value_of(crate, name):
-    """The value of a constant, as it stands."""
-    return re.search(rf"const {name}: [^=]*= ([^;]*);", specs.text_of(specs.declared_in(crate, name)))[1]
+def value_of(crate: Any, name: Any) -> Any:
+    """The value of a constant, as it is."""
+    return re.search(rf"const {name}: [^=]*= ([^;]*);", specs.text_of(specs.declared_in(crate, name)))[1]  # type: ignore[index]
 
 
-def quoted(definition):
-    """A definition with its comment, as they stand but for where lines of the comment end."""
+def quoted(definition: Any) -> Any:
+    """A definition with its comment, as they are but for where lines of the comment end."""
     indent = len(definition.lines[0]) - len(definition.lines[0].lstrip(" "))
     comment = [wrapped(definition.comment, " " * indent + "-- ")] if definition.comment else []
     return [line for text in comment for line in text.split("\n")] + definition.lines
 
 
-def believed():
+def believed() -> Any:
     """The page of what the headline's contract reaches, and what further calls add."""
     call, crate, headline = HEADLINE
     start = place_of(call, crate)
@@ -167,9 +170,9 @@ def believed():
         out += code(lines[:-1]) + [""]
     for who, crate, place, added, more in later:
         out += [f"## What {who} adds", "", *code(contract(*place)), ""]
-        kinds = kinds_in(more)
+        kinds = kinds_in(more)  # type: ignore[assignment]
         if kinds:
-            out += [wrapped("Types of the code: " + ", ".join(f"`{kind}` of `{owner}`" for owner, kind in kinds) + "."), ""]
+            out += [wrapped("Types of the code: " + ", ".join(f"`{kind}` of `{owner}`" for owner, kind in kinds) + "."), ""]  # type: ignore[attr-defined]
         out += views(kinds, "further ") + traits(sorted(it[1:] for it in more if it[0] == "trait"))
         for page, definitions in added:
             names = [f"`{it.name}`" for it in definitions]
@@ -182,7 +185,7 @@ def believed():
     return "\n".join(out).rstrip() + "\n"
 
 
-def lowered(text):
+def lowered(text: Any) -> Any:
     """A sentence within another one."""
     text = text.rstrip(".:")
     return text[0].lower() + text[1:] if re.match(r"[A-Z][a-z]* ", text) else text
@@ -196,24 +199,24 @@ ASKED = [
 ]
 
 
-def asked():
+def asked() -> Any:
     """The functions of the program whose bodies are to be believed."""
     out = ["## What the program asks of the system", ""]
     out += [wrapped("No contract can say which words and which files the system gives. What is read of a file or stream, and "
                     "written to it, `read_origin` and `write_to` of `route` pass on as it was given, whatever file or stream it is. "
                     "So these bodies are left to read:"), ""]
     for name, path, what in ASKED:
-        body = re.search(rf"^(?:///[^\n]*\n)*(?:pub )?fn {name}\b.*?^}}", specs.text_of(path), flags=re.M | re.S)[0]
+        body = re.search(rf"^(?:///[^\n]*\n)*(?:pub )?fn {name}\b.*?^}}", specs.text_of(path), flags=re.M | re.S)[0]  # type: ignore[index]
         out += [f"`{name}` in [{os.path.basename(path)}](../{path}), {what}:", "", *code(body.split("\n")), ""]
     return out
 
 
-def kinds_in(seen):
+def kinds_in(seen: Any) -> list[Any]:
     """The types of the code among what is reached, by crate and name."""
     return sorted(it[1:] for it in seen if it[0] == "type" and specs.declared_in(*it[1:]))
 
 
-def views(kinds, further):
+def views(kinds: Any, further: Any) -> list[Any]:
     """What contracts see of the values of those of these types that have a view."""
     seen = [specs.models()[kind] for kind in kinds if kind in specs.models()]
     if not seen:
@@ -224,7 +227,7 @@ def views(kinds, further):
     return [*out, ""]
 
 
-def traits(found):
+def traits(found: Any) -> Any:
     """Traits with words of their own, each with those that the types of the sources give it."""
     out = []
     for crate, name in found:
@@ -241,12 +244,12 @@ def traits(found):
 # Definitions
 
 
-def told():
+def told() -> Any:
     with open("docs/definitions.json", encoding="utf-8") as file:
         return json.load(file)
 
 
-def promised():
+def promised() -> Any:
     """The pages that contracts promise, as each crate's list of pages has them."""
     found = set()
     for crate in {page.crate for page in specs.pages().values()}:
@@ -255,7 +258,7 @@ def promised():
     return found
 
 
-def defined():
+def defined() -> Any:
     """The page of the definitions that contracts promise."""
     about = told()
     out = ["# Definitions", ""]
@@ -277,7 +280,7 @@ def defined():
     return "\n".join(out).rstrip() + "\n"
 
 
-def typed(definition):
+def typed(definition: Any) -> Any:
     """What stands for a comment that is not there: the type, or the fields of a record."""
     head = definition.lines[0].strip()
     if head.startswith("pub record"):
@@ -290,14 +293,14 @@ def typed(definition):
 # The crates
 
 
-def exported(crate):
+def exported(crate: Any) -> Any:
     """The names that the root of a crate hands out."""
     root = specs.text_of(f"crates/{crate}/src/lib.rt")
     names = {name for tree in re.findall(r"^pub use ([^;]*);", root, flags=re.M) for name in re.findall(r"\w+", tree)}
     return names | set(re.findall(r"^pub (?:fn|struct|enum|trait) (\w+)", root, flags=re.M))
 
 
-def calls_of(crate):
+def calls_of(crate: Any) -> Any:
     """The public calls of a crate: the name, the doc comment, and the names of the clauses."""
     names, calls = exported(crate), []
     for path in sorted(glob.glob(f"crates/{crate}/src/**/*.rt", recursive=True)):
@@ -324,7 +327,7 @@ def calls_of(crate):
     return calls
 
 
-def readme(crate):
+def readme(crate: Any) -> Any:
     """A crate's page: what is written by hand, and its calls."""
     path = f"crates/{crate}/README.md"
     hand = specs.text_of(path).partition(MARK)[0].rstrip() if os.path.exists(path) else f"# `{crate}`"
@@ -340,14 +343,14 @@ def readme(crate):
     return "\n".join(out) + "\n"
 
 
-def believed_pages():
+def believed_pages() -> set[Any]:
     """The pages of definitions that the contracts of what must be believed name, types of the code left out."""
     starts = [place_of(call, crate) for call, crate, _ in [HEADLINE, *FURTHER]]
     return {it[1:3] for it in specs.reached(starts, with_types=False) if it[0] == "definition"}
 
 
-def above():
-    """The crates by how many crates stand above each, without those of tests."""
+def above() -> list[Any]:
+    """The crates by how many crates are above each, without those of tests."""
     uses = {crate: used for crate, used in specs.crates().items() if not crate.endswith("_tests")}
     higher = {}
     for low in uses:
@@ -358,19 +361,19 @@ def above():
             reach.update(new)
             todo += new
         higher[low] = len(reach)
-    by_count = {}
+    by_count: dict[Any, Any] = {}
     for crate, count in higher.items():
         by_count.setdefault(count, []).append(f"`{crate}`")
     return [wrapped(f"{count}: {', '.join(crates)}", "- ", "  ") for count, crates in sorted(by_count.items(), reverse=True)]
 
 
-def architecture():
+def architecture() -> Any:
     """The page of the sources, with the crates above each."""
     before, mark, rest = specs.text_of("docs/ARCHITECTURE.md").partition("<!-- docs/make.py: above -->\n")
     return "\n".join([before + mark, *above(), "", ""]) + rest[rest.index("<!-- docs/make.py: end -->"):]
 
 
-def made():
+def made() -> Any:
     """Each generated page, by its path."""
     pages = {"docs/BELIEVE.md": believed(), "docs/DEFINITIONS.md": defined(), "docs/ARCHITECTURE.md": architecture()}
     for crate in specs.crates():
@@ -378,12 +381,12 @@ def made():
     return pages
 
 
-def differing():
+def differing() -> list[Any]:
     """The paths of the generated pages that differ from what the sources make."""
     return [path for path, text in made().items() if not os.path.exists(path) or specs.text_of(path) != text]
 
 
-def main():
+def main() -> Any:
     os.chdir(os.path.dirname(os.path.dirname(os.path.abspath(__file__))))
     if sys.argv[1:] == ["--check"]:
         wrong = differing()

@@ -1,13 +1,16 @@
 """Reads the pages of definitions: crates/*/specs/*.antt, and which of them the contract of a call reaches."""
+from __future__ import annotations
+
 import functools
 import glob
 import re
+from typing import Any
 
 HEAD = re.compile(r"^( *)(?:(?:abbrev|unfoldable)(?: pub)?|pub record|pub data) ([\w'-]+)")
 NAME = re.compile(r"[\w'◌-]+(?:\.[\w'-]+)*")
 
 
-def text_of(path):
+def text_of(path: Any) -> Any:
     with open(path, encoding="utf-8") as file:
         return file.read()
 
@@ -15,7 +18,7 @@ def text_of(path):
 class Definition:
     """A definition of a page: its name, its comment, its lines without that, and the names that it makes."""
 
-    def __init__(self, name, comment, lines, inner):
+    def __init__(self, name: Any, comment: Any, lines: Any, inner: Any) -> None:
         self.name, self.comment, self.lines, self.inner = name, comment, lines, inner
         self.makes = [name]
         if re.match(r" *pub data ", lines[0]):
@@ -25,13 +28,16 @@ class Definition:
 class Page:
     """A page of definitions: its crate, its name, what its head says, its definitions and what it imports."""
 
-    def __init__(self, path):
+    def __init__(self, path: Any) -> None:
         _, self.crate, _, file = path.split("/")
         self.path, self.name, self.key = path, file.removesuffix(".antt"), (path.split("/")[1], file.removesuffix(".antt"))
         lines = text_of(path).rstrip("\n").split("\n")
         self.length = len(lines)
-        self.head, self.definitions, self.modules = "", [], {}
-        self.scope, self.aliases = {}, {}
+        self.head = ""
+        self.definitions: list[Any] = []
+        self.modules: dict[Any, Any] = {}
+        self.scope: dict[Any, Any] = {}
+        self.aliases: dict[Any, Any] = {}
         for tree in re.findall(r"^use (.*)$", "\n".join(lines), flags=re.M):
             imports(tree, self.scope, self.aliases)
         self.read(lines)
@@ -39,9 +45,12 @@ class Page:
             for made in definition.makes:
                 self.scope[made] = ("definition", *self.key, definition.name)
 
-    def read(self, lines):
-        """The definitions, each with the comment that stands right above it."""
-        at, comment, alone, module = 0, [], [], None
+    def read(self, lines: Any) -> None:
+        """The definitions, each with the comment that is right above it."""
+        at = 0
+        comment: list[Any] = []
+        alone = []
+        module = None
         while at < len(lines):
             line = lines[at]
             head = HEAD.match(line)
@@ -69,24 +78,26 @@ class Page:
         self.head = alone[0] if alone else ""
 
     @staticmethod
-    def ends(line, indent):
+    def ends(line: Any, indent: Any) -> bool:
         """Whether a definition of this indent ends before this line."""
         if not line.strip() or len(line) - len(line.lstrip(" ")) > indent:
             return False
         return bool(HEAD.match(line) or re.match(r" *--| *module |use ", line))
 
-    def definition(self, name):
+    def definition(self, name: Any) -> Any:
         return next(it for it in self.definitions if it.name == name)
 
 
-def said(comment):
+def said(comment: Any) -> str:
     """The words of lines of a comment."""
     return " ".join(re.sub(r"^ *-- ?", "", line) for line in comment)
 
 
-def parts_of(text):
+def parts_of(text: Any) -> Any:
     """The parts of a list between braces, at its outermost commas."""
-    parts, depth, part = [], 0, ""
+    parts: list[Any] = []
+    depth = 0
+    part = ""
     for char in text:
         depth += (char == "{") - (char == "}")
         if char == "," and depth == 0:
@@ -96,7 +107,7 @@ def parts_of(text):
     return [*parts, part.strip()] if part.strip() else parts
 
 
-def imports(tree, scope, aliases, path=()):
+def imports(tree: Any, scope: Any, aliases: Any, path: Any = ()) -> None:
     """Adds to the scope what a tree of imports names."""
     tree = tree.strip().rstrip(";").strip()
     if tree.endswith("}") and "{" in tree:
@@ -126,7 +137,7 @@ def imports(tree, scope, aliases, path=()):
         scope[called] = ("definition", crate, rest[0], rest[1])
 
 
-def names_in(text, scope, aliases):
+def names_in(text: Any, scope: Any, aliases: Any) -> list[Any]:
     """What a text names, of what a scope has."""
     found = []
     for name in NAME.findall(re.sub(r"--.*", "", text)):
@@ -140,7 +151,7 @@ def names_in(text, scope, aliases):
 
 
 @functools.cache
-def pages():
+def pages() -> dict[Any, Any]:
     """Every page but the lists of pages, in the order of the crates and of each crate's list."""
     found = [Page(path) for path in sorted(glob.glob("crates/*/specs/*.antt")) if not path.endswith("/Lib.antt")]
     order = {crate: at for at, crate in enumerate(crates())}
@@ -150,13 +161,13 @@ def pages():
 
 
 @functools.cache
-def crates():
+def crates() -> dict[Any, Any]:
     """The crates of crates.txt, in its order, with what each uses."""
     lines = [line.split("#")[0].partition(":") for line in text_of("crates.txt").split("\n")]
     return {head.split()[0]: used.split() for head, _, used in lines if head.strip()}
 
 
-def contract_of(path, call):
+def contract_of(path: Any, call: Any) -> tuple[str, Any, Any]:
     """The contract of a call of a source, with the scope of the imports of that file."""
     text = text_of(path)
     scope, aliases = scope_of(text)
@@ -169,7 +180,7 @@ class Model:
     """What contracts see of a type's values: the source, the crate, the type, the definition or type that they see, the
     view that makes it, and what both name."""
 
-    def __init__(self, path, kind, body, about):
+    def __init__(self, path: Any, kind: Any, body: Any, about: Any) -> None:
         self.path, self.crate, self.kind = path, path.split("/")[1], kind
         scope, aliases = scope_of(about + body)
         value, view = (re.search(rf"ghost {what} = \{{(.*?)\}};", body, flags=re.S) for what in ("Value", "view"))
@@ -179,7 +190,7 @@ class Model:
 
 
 @functools.cache
-def models():
+def models() -> Any:
     """The types whose values contracts see by a view, by crate and name."""
     found = {}
     for path in sorted(glob.glob("crates/*/src/**/*.rt", recursive=True)):
@@ -192,7 +203,7 @@ def models():
 
 
 @functools.cache
-def instances(crate, trait):
+def instances(crate: Any, trait: Any) -> Any:
     """The types of the sources that have a trait with words of its own, tests left out: the source, the head, the words."""
     found = []
     for path in sorted(glob.glob("crates/*/src/**/*.rt", recursive=True)):
@@ -205,9 +216,9 @@ def instances(crate, trait):
 
 
 @functools.cache
-def declared():
+def declared() -> Any:
     """What each crate declares: by crate and name, whether that is a type or a trait, and the source."""
-    found = {}
+    found: dict[Any, Any] = {}
     for path in sorted(glob.glob("crates/*/src/**/*.rt", recursive=True)):
         for what, name in re.findall(r"^(?:pub(?:\(crate\))? )?(struct|enum|trait) (\w+)", text_of(path), flags=re.M):
             found.setdefault((path.split("/")[1], name), ("trait" if what == "trait" else "type", path))
@@ -215,16 +226,16 @@ def declared():
 
 
 @functools.cache
-def used_in(path):
+def used_in(path: Any) -> Any:
     """The crates from which a source has names, by name."""
     found = {}
     for tree in re.findall(r"^use ((?:ir_|page|route)[^;]*);", text_of(path), flags=re.M):
-        crate = re.match(r"\w+", tree)[0]
+        crate = re.match(r"\w+", tree)[0]  # type: ignore[index]
         found.update({name: crate for name in re.findall(r"\b[A-Z]\w+", tree)})
     return found
 
 
-def types_of(path, text):
+def types_of(path: Any, text: Any) -> list[Any]:
     """The types and traits of the crates that a piece of a source names."""
     crate, used, found = path.split("/")[1], used_in(path), []
     for name in re.findall(r"\b[A-Z]\w+", re.sub(r"//.*", "", text)):
@@ -234,13 +245,13 @@ def types_of(path, text):
     return list(dict.fromkeys(found))
 
 
-def declaration_of(crate, name):
+def declaration_of(crate: Any, name: Any) -> Any:
     """The lines of a declaration, to its end."""
     text = text_of(declared()[crate, name][1])
-    return re.search(rf"^(?:pub(?:\(crate\))? )?(?:struct|enum|trait) {name}\b.*?(?:^\}}|;$|\{{\}}$)", text, flags=re.M | re.S)[0]
+    return re.search(rf"^(?:pub(?:\(crate\))? )?(?:struct|enum|trait) {name}\b.*?(?:^\}}|;$|\{{\}}$)", text, flags=re.M | re.S)[0]  # type: ignore[index]
 
 
-def named_by(what):
+def named_by(what: Any) -> Any:
     """What a type or a trait names: its declaration the types of its parts, and its model what contracts see of it; a trait
     its own words, and those of each type that has it."""
     kind, crate, name = what
@@ -257,21 +268,22 @@ def named_by(what):
 
 
 @functools.cache
-def scope_of(text):
+def scope_of(text: Any) -> tuple[Any, Any]:
     """What a source imports of pages of definitions."""
-    scope, aliases = {}, {}
+    scope: dict[Any, Any] = {}
+    aliases: dict[Any, Any] = {}
     for tree in re.findall(r"^\s*ghost use ([^;]*);", text, flags=re.M):
         imports(" ".join(tree.split()), scope, aliases)
     return scope, aliases
 
 
-def signature_of(path, call):
+def signature_of(path: Any, call: Any) -> Any:
     """What a call takes and answers, and the bounds on it."""
     found = re.search(rf"^( *)(?:pub )?fn {call}\b.*?^\1(?=\{{)", text_of(path), flags=re.M | re.S)
     return re.sub(r"^\s*(?:ensures|requires)\b.*", "", found[0] if found else "", flags=re.M | re.S)
 
 
-def reached(starts, with_types=True):
+def reached(starts: Any, with_types: bool = True) -> Any:
     """What the contracts of these calls reach: definitions by page, types, traits and constants. A type brings the types of
     its parts and the view by which contracts see it, and so does a definition that is what they see of a type; but for
     `with_types` neither brings anything."""
@@ -292,17 +304,17 @@ def reached(starts, with_types=True):
             continue
         seen.add(what)
         if what[0] == "definition":
-            definition = page.definition(what[3])
-            todo += names_in("\n".join(definition.lines) + ("\n" + definition.inner if definition.inner else ""), page.scope, page.aliases)
+            definition = page.definition(what[3])  # type: ignore[union-attr]
+            todo += names_in("\n".join(definition.lines) + ("\n" + definition.inner if definition.inner else ""), page.scope, page.aliases)  # type: ignore[union-attr]
             todo += [("type", *place) for place, model in models().items() if what in model.seen]
         elif with_types and what[0] in ("type", "trait"):
             todo += named_by(what)
     return seen
 
 
-def in_order(seen):
+def in_order(seen: Any) -> Any:
     """The pages of what is reached, lowest first, each with its reached definitions in its own order."""
-    wanted = {}
+    wanted: dict[Any, Any] = {}
     for what in seen:
         if what[0] == "definition":
             wanted.setdefault(what[1:3], set()).add(what[3])
@@ -315,11 +327,11 @@ def in_order(seen):
     return order
 
 
-def lines_of(definitions):
+def lines_of(definitions: Any) -> Any:
     return sum(len(it.lines) for it in definitions)
 
 
-def declared_in(crate, name):
+def declared_in(crate: Any, name: Any) -> Any:
     """The file of a crate that declares a type or a constant."""
     for path in sorted(glob.glob(f"crates/{crate}/src/**/*.rt", recursive=True)):
         if re.search(rf"^(?:pub(?:\(crate\))? )?(?:struct|enum|trait|const|static) {name}\b", text_of(path), flags=re.M):

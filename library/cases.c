@@ -1,6 +1,6 @@
 // Answers calls that come on standard input, each as five lengths of 8 bytes and so many bytes of words, topology, script and
 // trace, where the fifth is the room for the output; each answer is the status and three lengths, so many bytes of what is in
-// the rooms, and whether the bytes behind the texts stayed as they were. tests/library speaks to it.
+// the rooms, and whether the bytes after the texts stayed as they were. tests/library speaks to it.
 #include "bentzolu.h"
 
 #include <stdio.h>
@@ -23,7 +23,7 @@ static uint8_t *room(uint64_t size) {
     return it;
 }
 
-// Whether a room is as it was behind the text.
+// Whether a room is as it was after the text.
 static uint64_t is_kept(const uint8_t *it, uint64_t length, uint64_t size) {
     for (uint64_t i = length; i < size + 1; i++)
         if (it[i] != BEHIND) return 0;

@@ -1,4 +1,4 @@
-"""What pytest is told of these tests: fixtures, the program to drive, sections, limits of time, and the count of checks.
+"""What pytest learns of these tests: fixtures, the program to drive, sections, limits of time, and the count of checks.
 
 A test makes checks by `support.checks`, each of which is counted. A test without any is one check itself. The last line of
 a run is `N passed, M failed` or that and `, K skipped`, in checks.

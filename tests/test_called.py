@@ -51,7 +51,7 @@ def called_so(program_: str, name: bytes) -> None:
                    *([sub, "--explain", *[f"said/none-{i}" for i in range(parts)], *(["--from", "a", "--to", "b"] if sub == "walk" else [])]
                      for sub, parts in TEXTS.items()), *([*line, "--explain"] for line in every_call()),
                    ["plan", "--explain", "--root", "z", "good/topology"]):
-        same(words_)
+        same(words_)  # type: ignore[arg-type]
     same([], b"a b\n%%\ninject a b\n")
     line = NO_WORDS.replace(b"route", name)
     expect(f"{program_}, no words on a terminal", on_terminal([], b"a b\n%%\n", program=program_), b"trace 1\n", line, 0)

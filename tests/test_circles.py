@@ -55,7 +55,7 @@ class Circle:
         yield "strict graph {\n  layout=circo;"
         yield '  node [shape=box, style="rounded,filled", fontname="sans-serif", fontcolor="#ffffff"];\n  edge [color="#9aa5b1"];'
         for label, name in enumerate(order):
-            ports = [port for *span, port in self.spans if label != self.own and self.has((*span, port), label)]
+            ports = [port for *span, port in self.spans if label != self.own and self.has((*span, port), label)]  # type: ignore[arg-type]
             yield f'  "{name}" [label="{name}\\n{label}", fillcolor="{self.colour(ports[0]) if ports else self.INK}"];'
         for one, other in zip(order, order[1:] + order[:1]):
             if one != other:
@@ -80,7 +80,7 @@ class Circle:
                  for arc in root.iter(f"{tag}circle")]
         wanted = [(colour, f"{710 * count} {710 * (n - count)}", f"{710 * (n - start)}", title) for colour, start, count, title in self.arcs()]
         if n <= 64:
-            wanted.append(("#ffffff", f"{n} {710 - n}", f"{n // 2}", None))
+            wanted.append(("#ffffff", f"{n} {710 - n}", f"{n // 2}", None))  # type: ignore[arg-type]
         if found != wanted:
             return f"arcs {found[:3]} .., and not {wanted[:3]} .."
         if {arc.get("r") for arc in root.iter(f"{tag}circle")} != {str(113 * n)}:
@@ -97,7 +97,7 @@ class Circle:
             if text_.text != said or text_.get("transform") != f"rotate({turn // 1000}.{turn % 1000:03})":
                 return f"text {half} is {text_.text} at {text_.get('transform')}, and not {said} at {turn}"
             is_bold = half == (2 * self.own + 1 if n <= 64 else len(places) - 1)
-            if text_.get("x").startswith("-") != (place > n) or (text_.get("font-weight") == "bold") != is_bold:
+            if text_.get("x").startswith("-") != (place > n) or (text_.get("font-weight") == "bold") != is_bold:  # type: ignore[union-attr]
                 return f"text {half} is on the other side, or bold"
         if len(ring) != len(places):
             return f"{len(ring)} texts, and not {len(places)}"
@@ -124,9 +124,9 @@ def test_circles() -> None:
     for nodes in (64, 65, 300):
         edges = {(luck.randrange(v), v) for v in range(1, nodes) for _ in range(2)}
         nets[f"random {nodes}"] = "".join(f"{u} {v} {luck.randint(1, 9)}\n" for u, v in sorted(edges)), ["0", "1", str(nodes - 1)]
-    for name, (text, nodes) in nets.items():
+    for name, (text, nodes) in nets.items():  # type: ignore[assignment]
         book, net = ByTheBook(text), put(f"circle/{name.replace(' ', '')}", text)
-        for kind, node in itertools.product(("tree", "shortest"), nodes):
+        for kind, node in itertools.product(("tree", "shortest"), nodes):  # type: ignore[call-overload]
             circle, words_ = Circle(book, kind, node), ["draw", "--format", "edgelist", "--kind", kind, "--node", node, net]
             expect(f"{name}, {kind}, the circle of {node}", run(words_), "".join(f"{line}\n" for line in circle.dot()).encode(), b"", 0)
             output, faults, status = run([*words_, "--svg"])

@@ -49,7 +49,7 @@ LINES = [
     ("route plan none -r ", ""),
     ("route help plan ", ""),
 ]
-# The same of values behind an equals sign, which fish and zsh give with what stands in front of it or without.
+# The same of values after an equals sign, which fish and zsh give with what stands in front of it or without.
 JOINED = [
     ("route plan --kind=t", "tree"),
     ("route plan --kind=", "compact landmark shortest tree"),

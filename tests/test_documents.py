@@ -70,13 +70,13 @@ def without_note(line: str) -> str:
 
 
 def note_status(line: str) -> Optional[int]:
-    """The status that a note behind a command names."""
+    """The status that a note after a command names."""
     found = re.search(r"\s{3,}# .*status (\d)", line)
     return int(found.group(1)) if found else None
 
 
 def sessions(rows: List[str]) -> List[Tuple[str, List[str], Optional[int]]]:
-    """The commands of a block behind `$ `, each with the lines that it prints and its status where a note names one."""
+    """The commands of a block after `$ `, each with the lines that it prints and its status where a note names one."""
     found: List[Tuple[str, List[str], Optional[int]]] = []
     for row in rows:
         if row.startswith("$ "):
@@ -124,7 +124,7 @@ def try_session(page: str, folder: str, top: str, command: str, shown: List[str]
 
 
 def try_told(page: str, top: str, command: str, after: List[Block]) -> None:
-    """A command alone in its block; what it prints is told by the words and the block behind it."""
+    """A command alone in its block; what it prints is given by the words and the block after it."""
     if is_skipped(page, command):
         return
     words_after = " ".join(after[0][1]) if after and after[0][0] == "text" else ""
@@ -148,7 +148,7 @@ def try_told(page: str, top: str, command: str, after: List[Block]) -> None:
 
 
 def try_page(page: str, text: str, folder: str, top: str) -> None:
-    """The commands of a page: behind `$ `, or alone in a block with the program's path."""
+    """The commands of a page: after `$ `, or alone in a block with the program's path."""
     found, number = blocks(text), 0
     for at, (kind, rows) in enumerate(found):
         if kind != "code":
@@ -226,7 +226,7 @@ def hands_on(name: str, program: str) -> None:
     with open(os.path.join(bin_folder, "python3"), "w", encoding="ascii") as file:
         file.write("#!/bin/sh\nexit 1\n")
     os.chmod(file.name, 0o755)
-    if subprocess.run(["/usr/bin/python3", "-c", "import bentzolu"], cwd="/", env={}, capture_output=True).returncode == 0:
+    if subprocess.run(["/usr/bin/python3", "-c", "import bentzolu"], cwd="/", env={}, capture_output=True).returncode == 0:  # type: ignore[arg-type]
         return  # it is installed on this machine
     done = subprocess.run([program, "agent"], cwd="/", env={"PATH": f"{bin_folder}:/usr/bin:/bin"}, capture_output=True, timeout=SECONDS)
     expect(f"{name} agent without the package", (done.stdout, done.stderr, done.returncode), b"", SOME, 1)
@@ -245,7 +245,7 @@ def test_installed() -> None:
         shared = ["share/doc/bentzolu/lab.html", "share/doc/bentzolu/examples"]
         written = "".join(f"{prefix}/{file}\n" for file in [*files, *shared]).encode()
         for turn in ("once", "again"):
-            expect(f"installed as {name}, {turn}", installed_in(top, prefix, *words_), written, b"", 0)
+            expect(f"installed as {name}, {turn}", installed_in(top, prefix, *words_), written, b"", 0)  # type: ignore[misc]
         beside = [file for file in files_in(prefix) if not file.startswith("share/doc/bentzolu/examples/")]
         count(f"files of {name}", None if beside == sorted([*files, shared[0]]) else str(beside))
         got = run(["--version"], program=os.path.join(prefix, "bin", name))
@@ -259,14 +259,14 @@ def test_installed() -> None:
             page = file.read()
         count(f"the manual page of {name}", None if f".TH {name.upper()} 1" in page and f"\\fB{name} plan" in page else "not of that name")
         other = put(os.path.join(prefix, "bin/other"), "")
-        removed = installed_in(top, "--uninstall", prefix, *words_)
+        removed = installed_in(top, "--uninstall", prefix, *words_)  # type: ignore[misc]
         expect(f"{name} removed", (b"".join(sorted(removed[0].splitlines(True))), *removed[1:]), b"".join(sorted(written.splitlines(True))), b"", 0)
         count(f"no folder is left of {name}", None if os.listdir(prefix) == ["bin"] else str(os.listdir(prefix)))
         count(f"files behind {name}", None if files_in(prefix) == ["bin/other"] else str(files_in(prefix)))
-        expect(f"{name} removed again", installed_in(top, "--uninstall", prefix, *words_), b"", SOME, 1)
+        expect(f"{name} removed again", installed_in(top, "--uninstall", prefix, *words_), b"", SOME, 1)  # type: ignore[misc]
         os.remove(work(other))
     for words_ in ([], ["a", "b"], ["a", "--name", "-x"], ["a", "--name", ""], ["a", "--name"], ["a", "--frob"], ["--uninstall"], [""]):
-        expect(f"install.sh {words_}", installed_in(top, *words_), b"", SOME, 2)
+        expect(f"install.sh {words_}", installed_in(top, *words_), b"", SOME, 2)  # type: ignore[misc]
     expect("install.sh --help", installed_in(top, "--help"), SOME, b"", 0)
     os.remove(os.path.join(top, "crates/route/out/route"))
     expect("install.sh with no program", installed_in(top, prefix), b"", SOME, 1)
@@ -307,7 +307,7 @@ def figures_told(readme: str) -> None:
 
 
 def test_gate() -> None:
-    """tests/refused-memory where there is no cc: it fails in the gate, and tells so elsewhere."""
+    """tests/refused-memory where there is no cc: it fails in the gate, and says so elsewhere."""
     bin_folder = work("bin")
     os.makedirs(bin_folder, exist_ok=True)
     for tool in ("bash", "dirname"):

@@ -82,7 +82,7 @@ def test_cases() -> None:
 
 def test_epochs() -> None:
     """A packet of each of as many epochs as there may be over a ring: trees from two roots by turns, by which it goes the one or the
-    other way. `check` knows each plan, and a sentence tells of the last."""
+    other way. `check` knows each plan, and a sentence reports the last."""
     ring = put("epochs/ring", "a b\nb c\nc d\nd a\n")
     script, live, rows = [], [], []
     for epoch in range(1, EPOCHS + 1):

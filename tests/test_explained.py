@@ -132,7 +132,7 @@ def test_explained_left() -> None:
 
 
 def test_explained_far() -> None:
-    """Faults on lines far down, and names far behind: the line that is quoted is that of the fault, and of names the first 1,024 are
+    """Faults on lines far down, and names far down: the line that is quoted is that of the fault, and of names the first 1,024 are
     compared, which two edits may turn into one that is none."""
     ring, steps = put("said/ring", "a b\nb c\nc d\nd a\n"), put("said/steps", "inject a c\ndrain\n")
     for line in (10, 1_500, 70_000):
@@ -162,8 +162,8 @@ def test_explained_far() -> None:
 
 
 def test_explained_unlearnt() -> None:
-    """A packet of a simulation behind an install that was not learnt: in lines that refused nothing, and behind refused ones, from
-    two files and from one input; none behind `learn`, in a live run, nor where the script was not played."""
+    """A packet of a simulation after an install that was not learnt: in lines that refused nothing, and after refused ones, from
+    two files and from one input; none after `learn`, in a live run, nor where the script was not played."""
     ring, said = put("said/ring", "a b\nb c\nc d\nd a\n"), ("no 'learn' comes between this inject and the install above it: sim stamps a packet with "
         "the greatest epoch that was learnt (live learns each install by itself)")
     old = "inject a c\ninstall shortest a\ninject a c # old\ndrain\n"
@@ -214,7 +214,7 @@ def test_explained_scripts() -> None:
     said = "".join(f"route: said/script:{i + 1}: 'up a b' was refused: it changes nothing\n" for i in range(64))
     got = run(["sim", "--explain", ring, "said/script"])
     expect("many refused steps", got, b"trace 1\n", (many + said + "route: further lines are not explained\n").encode(), 0)
-    for text, line, sentence in (
+    for text, line, sentence in (  # type: ignore[assignment]
         ("a\n\xe4\n".encode("latin-1"), "2 BadByte", ":2: byte 0xE4 in '\\xE4': names must be printable ASCII"),
         ("a\nb c\n", "2 BadRow", ":2: two words; a line of a numbering is the name of one node"),
         ("a\na2\n", "2 UnknownNode", f":2: no node 'a2' in {ring} (did you mean 'a'?)"),
@@ -267,7 +267,7 @@ def explained_step(name: str, words_: List[str], line: str, sentence: str, outpu
 
 
 def test_explained() -> None:
-    """Faults with --explain: the lines and the status stay, and sentences stand behind them."""
+    """Faults with --explain: the lines and the status stay, and sentences follow them."""
     ring = put("said/ring", "a b\nb c\nc d\nd a\n")
     script = put("said/steps", "inject a c\ndrain\n")
     for text, line, kind, sentence in found_rows():

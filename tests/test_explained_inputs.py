@@ -96,7 +96,7 @@ def test_explained_inputs() -> None:
 
 
 def test_explained_notes() -> None:
-    """Topologies of other formats: what is read of them stays, and a note stands behind it."""
+    """Topologies of other formats: what is read of them stays, and a note follows it."""
     convert = "python3 -m bentzolu convert"
     for name, text, form, word in (
         ("x.gml", "graph [\n  node [\n    id 0\n  ]\n]\n", "GML", ""),
@@ -139,7 +139,7 @@ def test_explained_notes() -> None:
 
 
 def read_of(text: str, faults: bytes) -> str:
-    """What a note tells of an adjacency list that was read; nothing where it was refused."""
+    """What a note says of an adjacency list that was read; nothing where it was refused."""
     rows = [line.split() for line in text.splitlines() if line.split()]
     nodes = {word for row in rows for word in row}
     links = {frozenset((row[0], word)) for row in rows for word in row[1:]}

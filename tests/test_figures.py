@@ -49,7 +49,7 @@ def has_ring(waits: Waits) -> bool:
 
 
 def ring_fault(told: List[str], waits: Waits) -> Optional[str]:
-    """What is wrong with a line, as its words behind the first, that tells a ring of links by these pairs or that there is none."""
+    """What is wrong with a line, as its words after the first, that names a ring of links by these pairs or that there is none."""
     if told == ["acyclic"]:
         return "there is a ring" if has_ring(waits) else None
     word, *nodes = told
@@ -74,7 +74,7 @@ def together_of(name: str, net: str, first: Tuple[str, str], second: Tuple[str, 
 
 
 def test_beside() -> None:
-    """The line of `stats --with` tells a ring of links that wait for each other by the walks of both plans, by a search that knows nothing of the
+    """The line of `stats --with` names a ring of links that wait for each other by the walks of both plans, by a search that knows nothing of the
     program, and the lines before it are those of `stats`."""
     luck = random.Random(1)
     kinds, both = ("tree", "shortest", "compact"), 0
@@ -184,7 +184,7 @@ def comparison_of(words_: List[str]) -> object:
 
 
 def test_compared() -> None:
-    """Each row of `compare` is what `stats` tells of that kind and numbering; its words, and what it refuses."""
+    """Each row of `compare` is what `stats` reports of that kind and numbering; its words, and what it refuses."""
     good_files()
     luck = random.Random(1)
     nets: List[Tuple[str, str, List[str]]] = [(name, os.path.join(TOP, "examples", name), []) for name in ("nsfnet.edgelist", "abilene.edgelist", "grid8x8.adjlist", "karate.edgelist")]
@@ -202,7 +202,7 @@ def test_compared() -> None:
     for words_ in (["--kind", "tree", "-"], ["--numbering", "tour", "-"], ["--capacity", "4", "-"], ["--packets", "4", "-"], ["--order", "-"],
                    ["-k", "tree", "-"], ["-n", "tour", "-"], ["--svg", "-"], ["--node", "a", "-"], ["-o", "-", "-o", "-", "-"],
                    ["--threads", "0", "-"], ["--format", "json", "-"], ["-", "-"], ["good/topology", "good/script"], []):
-        expect(f"compare, not understood: {words_}", run(["compare", *words_], b"a b\n"), b"", SOME, 2)
+        expect(f"compare, not understood: {words_}", run(["compare", *words_], b"a b\n"), b"", SOME, 2)  # type: ignore[misc]
     for words_ in (["compare", "--help"], ["compare", "-h"], ["help", "compare"]):
         expect(f"understood: {words_}", run(words_), SOME, b"", 0)
     for name, text in (("NoNode", "a b\n"), ("Empty", ""), ("Disconnected", "a z\nc\n")):

@@ -18,7 +18,7 @@ pytestmark = [built]
 
 
 def each_unreadable(how: str, name: str, **more: Any) -> None:
-    """Each choice of texts that can't be read: the first of them is told, before any other fault."""
+    """Each choice of texts that can't be read: the first of them is reported, before any other fault."""
     for sub, parts in TEXTS.items():
         for chosen in itertools.product([False, True], repeat=parts):
             if not any(chosen):
@@ -83,14 +83,14 @@ def test_formats() -> None:
     for name in ("x", "x.adjlist", "x.txt", "x.EDGELIST", "edgelist", "x.edgelist.txt", "wel", "x.weighted"):
         file = put(f"formats/listed/{name}", listed)
         for sub, rest in (("plan", []), ("stats", []), ("sim", ["good/script"])):
-            by_word = run(call(sub, [file, *rest], "--format", "adjlist"))
-            alike(f"{sub} of {name}", run(call(sub, [file, *rest])), by_word)
+            by_word = run(call(sub, [file, *rest], "--format", "adjlist"))  # type: ignore[misc]
+            alike(f"{sub} of {name}", run(call(sub, [file, *rest])), by_word)  # type: ignore[misc]
     for name in ("x.edgelist", "x.weighted.edgelist", "x.wel", ".edgelist", ".wel", "x.wel.edgelist"):
         file = put(f"formats/edges/{name}", edges)
         for sub, rest in (("plan", []), ("walk", []), ("stats", []), ("draw", []), ("prefixes", []), ("ranges", []), ("sim", ["good/script"]),
                           ("live", ["good/script"]), ("check", ["good/script", "good/trace"])):
-            by_word = run(call(sub, [file, *rest], "--format", "edgelist"))
-            alike(f"{sub} of {name}", run(call(sub, [file, *rest])), by_word)
+            by_word = run(call(sub, [file, *rest], "--format", "edgelist"))  # type: ignore[misc]
+            alike(f"{sub} of {name}", run(call(sub, [file, *rest])), by_word)  # type: ignore[misc]
     figures = run(["stats", "formats/edges/x.edgelist"])
     expect("the weights of an edge list", figures, run(["stats", "--format", "edgelist", "-"], edges.encode())[0], b"", 0)
     alike("an adjacency list in such a file", run(["plan", "--format", "adjlist", put("formats/listed/x.edgelist", listed)]),

@@ -22,7 +22,7 @@ def test_landmarks() -> None:
     words = ["plan", "--kind", "landmark"]
     rows = b"plan landmark 3 4\na 0 1 b 2 c\nb 1 2 a\nc 2 0 a\n"
     for more in ([], ["--stretch", "300"], ["--landmarks", "1"], ["--landmarks", "1", "--stretch", "300"], ["--root", "a"], ["-n", "depth-first"]):
-        expect(f"a triangle, {more}", run([*words, *more, "-"], TRIANGLE), rows, b"", 0)
+        expect(f"a triangle, {more}", run([*words, *more, "-"], TRIANGLE), rows, b"", 0)  # type: ignore[misc]
     walk = b"walk landmark b c 2 2\nb 1 2 2 a 1\na 0 2 1 c 1\nc 2\n"
     expect("a walk by the landmark", run(["walk", "--kind", "landmark", "--from", "b", "--to", "c", "-"], TRIANGLE), walk, b"", 0)
     for more in (["--stretch", "100"], ["--landmarks", "3"], ["--landmarks", "65535", "--stretch", "100"]):
@@ -35,16 +35,16 @@ def test_landmarks() -> None:
 
 
 def test_landmarks_told() -> None:
-    """The figures have the landmarks and the stretch behind the others, for this kind alone."""
+    """The figures have the landmarks and the stretch after the others, for this kind alone."""
     for more, told in (([], b"landmarks c b\nstretch 300\n"), (["--landmarks", "1", "--stretch", "200"], b"landmarks c\nstretch 200\n"),
                        (["--landmarks", "7"], b"landmarks c b d e f a g\nstretch 300\n")):
-        got = run(["stats", "--kind", "landmark", "--root", "c", *more, "-"], PATH)
+        got = run(["stats", "--kind", "landmark", "--root", "c", *more, "-"], PATH)  # type: ignore[misc]
         expect(f"the figures of a path, {more}", (got[0][-len(told):], *got[1:]), told, b"", 0)
     got = run(["stats", "--json", "--kind", "landmark", "--root", "c", "-"], PATH)
     expect("as JSON", (got[0][got[0].find(b'"landmarks"'):], *got[1:]), b'"landmarks":{"nodes":["c","b"]},\n"stretch":300\n}\n', b"", 0)
     for kind in ("tree", "shortest", "compact"):
-        got, faults, status = run(["stats", "--kind", kind, "--with", "landmark", "--stretch", "150", "-"], PATH)
-        expect(f"no landmarks of {kind}", (got[got.find(b"landmarks"):][:1], faults, status), b"\n", b"", 0)
+        got, faults, status = run(["stats", "--kind", kind, "--with", "landmark", "--stretch", "150", "-"], PATH)  # type: ignore[assignment]
+        expect(f"no landmarks of {kind}", (got[got.find(b"landmarks"):][:1], faults, status), b"\n", b"", 0)  # type: ignore[arg-type, attr-defined]
 
 
 def blocks_by_the_book(text: str, landmarks: list[str]) -> dict[str, str]:
@@ -102,9 +102,9 @@ def test_landmarks_installed() -> None:
     net, script = put("landmarks/net", PATH.decode()), put("landmarks/script", "inject a g\ninstall landmark d\nlearn 2\ninject g a\ndrain\n")
     wanted = b"trace 1\n0 1 a g 6 delivered a b c d e f g\n1 2 g a 6 delivered g f e d c b a\n"
     for words in ([], ["--kind", "landmark"], ["--landmarks", "2"], ["--kind", "tree", "--stretch", "150"], ["-n", "tour"]):
-        expect(f"a run, {words}", run(["sim", *words, net, script]), wanted, b"", 0)
+        expect(f"a run, {words}", run(["sim", *words, net, script]), wanted, b"", 0)  # type: ignore[misc]
         trace = put("landmarks/trace", wanted.decode())
-        expect(f"its check, {words}", run(["check", "--whole", *words, net, script, trace]), b"ok 2\n", b"", 0)
+        expect(f"its check, {words}", run(["check", "--whole", *words, net, script, trace]), b"ok 2\n", b"", 0)  # type: ignore[misc]
     expect("a kind that is none", run(["sim", "-"], PATH + b"%%\ninstall landmarks a\n"), b"", b"script 1 BadCommand\n", 1)
     parted = PATH + b"%%\ndown c d\ninstall landmark a\nup c d\ninstall landmark a\ninject a g\ndrain\n"
     wanted = b"trace 1\n0 1 a g 6 delivered a b c d e f g\n"

@@ -61,7 +61,7 @@ class Bench:
         Parameters
         ----------
         words
-            The words behind its name.
+            The words after its name.
         stdout
             Where its output goes.
         **settings
@@ -243,7 +243,7 @@ def a_link_that_leads_astray(bench: Bench) -> None:
 
 
 def many_words(bench: Bench) -> None:
-    """Words behind the sixty-fourth are read too: the first that is too many is refused by its name."""
+    """Words after the sixty-fourth are read too: the first that is too many is refused by its name."""
     for count in (1, 61, 62, 63, 64, 100):
         words = ["plan", "path", *(["--"] if count == 1 else []), *[f"more{at}" for at in range(count)]]
         run = bench.run(words)

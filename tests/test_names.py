@@ -1,15 +1,15 @@
 """Holds the documents to the sources; `tests/names` runs it.
 
 Each name between backticks in docs/*.md, README.md, CONTRIBUTING.md or what is written by hand of crates/*/README.md that
-looks like one of the sources stands in them, in Rattle outside of comments: an identifier, a path, a file; a call or a
-variant in its type; an option or a subcommand in the manual page, an option of the lab in its words. Names that are told
+looks like one of the sources is in them, in Rattle outside of comments: an identifier, a path, a file; a call or a
+variant in its type; an option or a subcommand in the manual page, an option of the lab in its words. Names that are given
 with their page of definitions (`IsRun` in Run) stand on a page of that name. The pages that docs/make.py makes are what it
 makes of these sources(). Each specs/Lib.antt lists its crate's pages under two comments, those that contracts promise and
 those that bodies use; every page of docs/BELIEVE.md is one of the former. The name of a definition that other pages can
 cite stands on one page of all crates: it has one meaning. Each crate of crates.txt has a row in ARCHITECTURE.md, is in the
-drawing there unless it holds tests, and has a README.md, in which stand names of its own and of crates that it uses. No
+drawing there unless it holds tests, and has a README.md, in which are names of its own and of crates that it uses. No
 line of a document is wider than 100 columns, but of tables of figures. Each must-fail edit, of the gate and of the folders
-`edits`, can be made: its texts stand once in the sources that it names.
+`edits`, can be made: its texts occur once in the sources that it names.
 """
 from __future__ import annotations
 
@@ -27,13 +27,13 @@ from support.places import TOP
 sys.path.insert(0, os.path.join(TOP, "docs"))
 import make  # type: ignore[import]  # noqa: E402
 
-# First words of commands of the shell, the kit and other tools: what stands behind them is not looked for.
+# First words of commands of the shell, the kit and other tools: what follows them is not looked for.
 COMMANDS = {"grep", "ip", "ipv6", "journalctl", "pip", "python3", "rattle-kit-13b", "rt", "rustc", "systemd-analyze"}
 
 # Names of other tools, and a file that a user may have.
 OTHERS = {"gc_thresh3", "isatty", "nodetype", "./tour"}
 
-# Where options stand, beside the manual page.
+# Where options are, beside the manual page.
 OPTIONS = ("install.sh", "python/bentzolu/lab.py", "python/bentzolu/fleet_words.py", "python/bentzolu/sweep_words.py",
            "python/bentzolu/xdp_words.py", "plane/loader.c",
            "site/build.py", "tests/oracle/__main__.py", "packaging/test-packages")
@@ -99,7 +99,7 @@ def members_of(text: str) -> Dict[str, Set[str]]:
 
 
 class Sources:
-    """What stands in the sources: the paths, the words, the members of types, and the options of the manual page."""
+    """What is in the sources: the paths, the words, the members of types, and the options of the manual page."""
 
     def __init__(self) -> None:
         self.paths = all_paths()
@@ -155,7 +155,7 @@ class Sources:
 
 @functools.lru_cache(maxsize=None)
 def sources() -> Sources:
-    """What stands in the sources, read once."""
+    """What is in the sources, read once."""
     return Sources()
 
 
@@ -207,7 +207,7 @@ def test_names() -> None:
 
 
 def test_pages() -> None:
-    """Each name that a document tells with its page of definitions stands on one page of that name."""
+    """Each name that a document gives with its page of definitions is on one page of that name."""
     for path in by_hand():
         told = re.findall(rf"((?:`{WORD}`(?:, | and )?)+) in ([A-Z]\w+)", " ".join(prose_of(path).split()))
         for names_there, page in sorted(set(told)):
@@ -217,7 +217,7 @@ def test_pages() -> None:
 
 
 def test_sections() -> None:
-    """Each name that is written by hand in a crate's README.md stands in that crate, or in a crate that it uses."""
+    """Each name that is written by hand in a crate's README.md is in that crate, or in a crate that it uses."""
     uses = uses_of_crates()
     for crate in [crate for crate in uses if os.path.exists(f"crates/{crate}/README.md")]:
         near = {crate, *uses[crate]} if not crate.endswith("tests") else set(uses)
@@ -312,7 +312,7 @@ def test_crates() -> None:
 
 
 def test_examples() -> None:
-    """The lines of each example in a doc comment stand one behind the other in a file of the crates of tests."""
+    """The lines of each example in a doc comment are one after the other in a file of the crates of tests."""
     tested = ["".join(line.strip() + "\n" for line in text_of(path).split("\n"))
               for path in sources().paths if re.fullmatch(r"crates/\w*tests/src/\w+\.rt", path)]
     for path in [path for path in sources().paths if re.fullmatch(r"crates/\w+/src/\w+\.rt", path)]:

@@ -53,7 +53,7 @@ def test_outputs() -> None:
 
 
 def closed_pipe(sub: str, files: List[str], at: signal.Handlers) -> None:
-    """A reader that takes one line and goes away: the program ends, and tells it by its status alone."""
+    """A reader that takes one line and goes away: the program ends, and reports it by its status alone."""
     name = f"{sub} into a pipe that is closed, with SIGPIPE {at.name}"
     process = subprocess.Popen([program(), *call(sub, files, "--capacity", str(CAPACITY))], cwd=work(), stdin=subprocess.DEVNULL,
                                stdout=subprocess.PIPE, stderr=subprocess.PIPE, restore_signals=False,
@@ -65,7 +65,7 @@ def closed_pipe(sub: str, files: List[str], at: signal.Handlers) -> None:
         status = process.wait(SECONDS)
     except subprocess.TimeoutExpired:
         process.kill()
-        faults, status = b"", "hangs"
+        faults, status = b"", "hangs"  # type: ignore[assignment]
     expect(name, (line, faults, status), b"trace 1\n", b"", 1)
 
 
@@ -89,7 +89,7 @@ def test_parted() -> None:
 
     with open(work("long/part"), "wb") as file:
         got = run(["plan", complete], stdout=file, restore_signals=False, preexec_fn=leave)
-    with open(work("long/part"), "rb") as file:
+    with open(work("long/part"), "rb") as file:  # type: ignore[assignment]
         expect("a plan whose second part is refused", (file.read(), *got[1:]), want[:PART_BYTES], b"output unwritable\n", 1)
 
 
@@ -132,7 +132,7 @@ def test_kept() -> None:
 
 
 def test_kept_places() -> None:
-    """Where a file is, what it may be done with, and what stands beside it."""
+    """Where a file is, what it may be done with, and what is beside it."""
     good_files()
     plan = ["plan", "good/topology"]
     output = run(plan)[0]
@@ -259,7 +259,7 @@ def test_kept_killed() -> None:
 
 
 def test_kept_streamed() -> None:
-    """A pipe of a name is written as the output comes, and what its reader leaves is told by the status alone."""
+    """A pipe of a name is written as the output comes, and what its reader leaves is reported by the status alone."""
     good_files()
     path = os.path.join(fresh(), "pipe")
     os.mkfifo(path)
@@ -278,7 +278,7 @@ def test_kept_streamed() -> None:
 
 
 def test_silent() -> None:
-    """--quiet: nothing on standard error, and all else as without it; words that are not understood are told."""
+    """--quiet: nothing on standard error, and all else as without it; words that are not understood are reported."""
     good_files()
     put("good/bad", "\x01\n")
     put("good/refused", "retire 1\nup a b\ninject a c\n")

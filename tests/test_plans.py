@@ -60,11 +60,11 @@ def test_large() -> None:
 def test_numberings() -> None:
     """Labels in the order of a file, by a tour, and depth first; each fault of a file; words that do not go together."""
     good_files()
-    ring = put("numbered/ring", "".join(f"{u} {v}\n" for u, v in ("ab", "bc", "cd", "de", "ef", "fa")))
+    ring = put("numbered/ring", "".join(f"{u} {v}\n" for u, v in ("ab", "bc", "cd", "de", "ef", "fa")))  # type: ignore[has-type, misc]
     order = put("numbered/order", "c # the root\n\n# none\n  a\nb\nf \ne\nd")
     got = run(["plan", "--numbering", order, ring])
     labels = [line.split()[:2] for line in got[0].splitlines()[1:]]
-    count("labels by a file", None if dict(labels) == {b"c": b"0", b"a": b"1", b"b": b"2", b"f": b"3", b"e": b"4", b"d": b"5"}
+    count("labels by a file", None if dict(labels) == {b"c": b"0", b"a": b"1", b"b": b"2", b"f": b"3", b"e": b"4", b"d": b"5"}  # type: ignore[arg-type]
           else brief(got[0]))
     expect("a plan by a file", got, SOME, b"", 0)
     first = run(["plan", ring])
@@ -80,7 +80,7 @@ def test_numberings() -> None:
     for name, text, line in (("byte", "a\n\xe4\n".encode("latin-1"), "2 BadByte"), ("words", "a\nb c\n", "2 BadRow"),
                              ("other", "a\nz\n", "2 UnknownNode"), ("again", "a\nb\n\na\n", "4 Twice"),
                              ("few", "a\nb\nc\n", "3 Missing"), ("none", "", "0 Missing")):
-        refused(f"a numbering with a fault, {name}", run(["plan", "--numbering", put(f"numbered/{name}", text), ring]), f"numbering {line}")
+        refused(f"a numbering with a fault, {name}", run(["plan", "--numbering", put(f"numbered/{name}", text), ring]), f"numbering {line}")  # type: ignore[arg-type]
     faulty = put("numbered/faulty", "a b\n1 \xe4\n".encode("latin-1"))
     refused("a topology's fault before a numbering's", run(["plan", "--numbering", "numbered/none", faulty]), "topology 2 BadByte")
     refused("a numbering that is missing", run(["plan", "--numbering", "numbered/nowhere", faulty]), "numbering unreadable")
@@ -94,13 +94,13 @@ def test_numberings() -> None:
     for sub in ("sim", "live", "check"):
         for words_ in (["--kind", "tree", "--numbering", "tour"], ["--numbering", order], ["--numbering", "-"], ["--numbering", ""]):
             expect(f"not understood: {sub} {words_}", run(call(sub, ["-"], *words_)), b"", SOME, 2)
-        tree = ["--kind", "tree", "--numbering", "depth-first"]
-        got = run(call(sub, [f"good/{name}" for name in NAMES[:TEXTS[sub]]], *tree))
+        tree = ["--kind", "tree", "--numbering", "depth-first"]  # type: ignore[assignment]
+        got = run(call(sub, [f"good/{name}" for name in NAMES[:TEXTS[sub]]], *tree))  # type: ignore[arg-type]
         expect(f"{sub} {tree}", got, SOME, b"", 0)
     hypercube = "".join(f"n{u} n{u ^ 1 << i}\n" for u in range(32) for i in range(5) if not u >> i & 1)
     cube = put("numbered/cube", hypercube)
     for kind in ("shortest", "compact"):
-        plans = [run(["plan", "--kind", kind, *more, cube])[0].splitlines()[0].split()[3] for more in
+        plans = [run(["plan", "--kind", kind, *more, cube])[0].splitlines()[0].split()[3] for more in  # type: ignore[misc]
                  ([], ["--numbering", "tour"], ["--numbering", "tour", "--threads", "1"])]
         fewer = int(plans[1]) < int(plans[0]) or (kind == "compact" and plans[1] == plans[0])
         count(f"a tour on a hypercube, {kind}", None if fewer and plans[1] == plans[2] else f"{plans}")
@@ -114,7 +114,7 @@ def walked(net: str, root: str, pairs: List[Tuple[str, str]]) -> Iterator[List[s
 
 
 def test_tours() -> None:
-    """Packets of `sim` and `live` go as `walk` tells of a tour, also behind an install, and `check` knows the ways by that numbering."""
+    """Packets of `sim` and `live` go as `walk` prints of a tour, also after an install, and `check` knows the ways by that numbering."""
     net = put("toured/net", "".join(f"n{u} n{u + 1} n{u + 3}\n" for u in range(10)))
     pairs = [(f"n{u}", f"n{v}") for u in (0, 4, 6, 12) for v in range(13) if u != v]
     injected = "".join(f"inject {u} {v}\ndrain\n" for u, v in pairs)
@@ -264,7 +264,7 @@ def test_ranges() -> None:
             expect(f"the ranges of {name}, {kind}", run(["ranges", "--kind", kind, net]), ranges_of(plan[0].decode()).encode(), b"", 0)
             order = run(["plan", "--order", "--kind", kind, net])
             labels = {words_[0]: int(words_[1]) for words_ in (line.split() for line in plan[0].splitlines()[1:])}
-            expect(f"the order of {name}, {kind}", order, b"".join(node + b"\n" for node in sorted(labels, key=labels.get)), b"", 0)
+            expect(f"the order of {name}, {kind}", order, b"".join(node + b"\n" for node in sorted(labels, key=labels.get)), b"", 0)  # type: ignore[arg-type]
             if kind != "tree":
                 again = ["--kind", kind, "--numbering", put("ranged/order", order[0]), net]
                 alike(f"the plan of {name} by its order, {kind}", run(["plan", *again]), plan)

@@ -45,9 +45,9 @@ def timed_run(times: int, nodes: int) -> Tuple[float, Got, int]:
         if status is None:
             process.kill()
             process.wait()
-            status = "hangs"
+            status = "hangs"  # type: ignore[assignment]
     with open(output, "rb") as out, open(faults, "rb") as told:
-        return time.monotonic() - begun, (out.read(), told.read(), status), threads
+        return time.monotonic() - begun, (out.read(), told.read(), status), threads  # type: ignore[return-value]
 
 
 @alone
@@ -142,7 +142,7 @@ def is_still(process: "subprocess.Popen[bytes]", took: float) -> bool:
 
 def live_run(files: List[str], processors: List[int]) -> Got:
     """
-    Output, faults (none: they stand in the output) and status of a live run on these processors. Its status is `hangs`
+    Output, faults (none: they are in the output) and status of a live run on these processors. Its status is `hangs`
     where it was still at so many looks in turn: a machine with other work may make it wait long for a processor. It is
     `hangs`, too, where it takes far more time than it has work for.
     """
@@ -257,7 +257,7 @@ def test_held() -> None:
         got, holds = held_run(files, luck)
         all_holds += holds
         lines = zip(got.split(b"\n"), want.split(b"\n"))
-        wrong = None if got == want else next((f"{one} in place of {two}" for one, two in lines if one != two), brief(got))
+        wrong = None if got == want else next((f"{one} in place of {two}" for one, two in lines if one != two), brief(got))  # type: ignore[str-bytes-safe]
         count("nodes that are held", wrong)
     if all_holds:
         say(f"held: nodes were held {all_holds} times")
@@ -317,5 +317,5 @@ def test_drains() -> None:
     if not sleeps:
         not_held("drains")
     script, want = one_by_one()
-    got = run(["live", "--capacity", "1024", put("topology", chain()), put("script", script)])
-    expect_all("one drain behind packets that end one by one", got, (want, b"", 0))
+    got = run(["live", "--capacity", "1024", put("topology", chain()), put("script", script)])  # type: ignore[assignment]
+    expect_all("one drain behind packets that end one by one", got, (want, b"", 0))  # type: ignore[arg-type]

@@ -55,7 +55,7 @@ def measured(words: List[str]) -> Tuple[Got, int]:
         with open(told) as line:
             status, kilobytes = (line.read() or "hangs 0").split()
         got = output.read(), faults.read(), status if status == "hangs" else int(status)
-    return got, int(kilobytes) * 1024
+    return got, int(kilobytes) * 1024  # type: ignore[return-value]
 
 
 def is_connected(nodes: List[str], links: Links) -> bool:
@@ -73,7 +73,7 @@ def is_connected(nodes: List[str], links: Links) -> bool:
 
 def drained(luck: random.Random, nodes: List[str], links: Links, kinds: List[str], packets: int) -> Tuple[str, str]:
     """
-    Lines with a drain behind each packet and changes between them, as a simulation and as a live run take them: in a
+    Lines with a drain after each packet and changes between them, as a simulation and as a live run take them: in a
     live run the injector learns of each install at once, so the line that says so is a comment.
     """
     sim: List[str] = []
@@ -119,9 +119,9 @@ def test_alike() -> None:
             luck = random.Random(number)
             sim, live = drained(luck, list(nodes), links, every, packets)
             topology = put("topology", "".join(f"{u} {v}\n" for u, v in links))
-            want = run(["sim", *restamps, topology, put("sim", sim)])
-            got = run(["live", *restamps, topology, put("live", live)])
-            name = f"live as simulated, {len(nodes)} nodes, {packets} packets, {' '.join(restamps) or 'no restamps'}"
+            want = run(["sim", *restamps, topology, put("sim", sim)])  # type: ignore[misc]
+            got = run(["live", *restamps, topology, put("live", live)])  # type: ignore[misc]
+            name = f"live as simulated, {len(nodes)} nodes, {packets} packets, {' '.join(restamps) or 'no restamps'}"  # type: ignore[arg-type]
             expect_all(name, got, want)
             count(f"{name}: fates", None if b" down " in want[0] and b" delivered " in want[0] else brief(want[0]))
 
@@ -144,7 +144,7 @@ def next_ones(nodes: int, reach: int) -> str:
 
 def marked(ends: str, packet: str) -> Tuple[str, bytes, int]:
     """
-    As many marks of a link as there may be and one more, a packet over the link behind some of them and behind all, and one over
+    As many marks of a link as there may be and one more, a packet over the link after some of them and after all, and one over
     another link; the rows, and the line that is refused. A node that carries packets reads the board again and again.
     """
     u, v = ends.split()
@@ -171,14 +171,14 @@ def marked(ends: str, packet: str) -> Tuple[str, bytes, int]:
 @slow
 @within(3_600)
 def test_long_scripts() -> None:
-    """As many changes as there may be, and one more, with packets between and behind them; also of the last link where there are
+    """As many changes as there may be, and one more, with packets between and after them; also of the last link where there are
     most."""
     for topology, words, ends, packet in (("a b\nb c\n", [], "a b", "b c"),
                                           (next_ones(*NET), ["--kind", "tree"], f"n{NET[0] - 2} n{NET[0] - 1}", "n0 n1")):
         script, rows, line = marked(ends, packet)
         files = [put("topology", topology), put("script", script)]
         for sub in ("sim", "live"):
-            got = run([sub, *words, *files])
+            got = run([sub, *words, *files])  # type: ignore[misc]
             expect_all(f"{sub} with {CHANGES + 1} marks of {ends}", got, (rows, f"refused {line} TooManyChanges\n".encode(), 0))
 
 
@@ -230,9 +230,9 @@ def test_edges() -> None:
                       ("check", ["none", "no-rows"])):
         words = [sub, "--kind", "tree", *(["--from", "a", "--to", "b"] if sub == "walk" else [])]
         line = f"topology {GRAPH_EDGES + 1} TooManyEdges\n".encode()
-        expect_all(f"{sub} of too many edges", run([*words, files[1], *rest]), (b"", line, 1))
+        expect_all(f"{sub} of too many edges", run([*words, files[1], *rest]), (b"", line, 1))  # type: ignore[misc]
         if rest:
-            got = run([*words, files[0], *rest])
+            got = run([*words, files[0], *rest])  # type: ignore[misc]
             expect_all(f"{sub} of as many edges as fit", got, (b"", b"opening TooLarge\n", 1))
 
 
@@ -254,7 +254,7 @@ def few_threads() -> Callable[[], None]:
 @slow
 @within(3_600)
 def test_no_thread() -> None:
-    """A live run for whose threads the machine has no room tells so, and ends."""
+    """A live run for whose threads the machine has no room says so, and ends."""
     names = [f"n{i}" for i in range(512)]
     files = [put("topology", "".join(f"{u} {v}\n" for u, v in zip(names, names[1:]))), put("script", "")]
     expect_all("a live run with room for its threads", run(["live", *files]), (b"trace 1\n", b"", 0))

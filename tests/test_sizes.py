@@ -70,9 +70,9 @@ def test_sizes_in_threads() -> None:
             got = run(call("plan", ["limit/net"], "--kind", kind, "--threads", str(threads)))
             expect(f"the {kind} plan of the greatest network in at most {threads} threads", got, lone_[0], b"", 0)
     for rest in ([], ["--disjoint"]):
-        lone_ = run(call("prefixes", ["limit/net"], *rest, "--threads", "1"))
+        lone_ = run(call("prefixes", ["limit/net"], *rest, "--threads", "1"))  # type: ignore[misc]
         for threads in (2, 3, 16, THREADS):
-            got = run(call("prefixes", ["limit/net"], *rest, "--threads", str(threads)))
+            got = run(call("prefixes", ["limit/net"], *rest, "--threads", str(threads)))  # type: ignore[misc]
             expect(f"the tables of the greatest network in at most {threads} threads", got, lone_[0], b"", 0)
 
 
@@ -177,7 +177,7 @@ class Chain:
                 return f"{rows[i][:80]}: its node is {self.names[i]}, with label {self.labels[i]}"
             held = [(*map(int, entry.split("/")), to) for entry, to in zip(entries[::2], entries[1::2])]
             for label in (label for label in range(0, self.nodes, 37) if label != int(own)):
-                sent = next((to for value, length, to in held if (label ^ value) >> (bits - length) == 0), None)
+                sent = next((to for value, length, to in held if (label ^ value) >> (bits - length) == 0), None)  # type: ignore[operator]
                 if sent != self.by_label[int(own) + (1 if label > int(own) else -1)]:
                     return f"{rows[i][:80]}: {label} goes to {sent}"
         return None
@@ -228,14 +228,14 @@ def test_sizes_of_tours_alike() -> None:
         net = put("limit/toured", band(nodes))
         alone = run(["plan", "--numbering", "tour", "--threads", "1", net])
         for told in (["--threads", "2"], ["--threads", str(THREADS)], []):
-            expect(f"the tour of {nodes} nodes, {told}", run(["plan", "--numbering", "tour", *told, net], seconds=GREAT_SECONDS), alone[0], b"", 0)
+            expect(f"the tour of {nodes} nodes, {told}", run(["plan", "--numbering", "tour", *told, net], seconds=GREAT_SECONDS), alone[0], b"", 0)  # type: ignore[misc]
 
 
 @alone
 @slow
 @within(3_000)
 def test_sizes_of_runs() -> None:
-    """Packets of three epochs, one of each kind, over a network of the most nodes and links: `sim` and `live` send them as `walk` tells
+    """Packets of three epochs, one of each kind, over a network of the most nodes and links: `sim` and `live` send them as `walk` prints
     of the plan of that kind, root and numbering, and `check` finds nothing."""
     greatest_net()
     kinds, ends = ["shortest", "compact", "tree"], [("a", f"n{NET_NODES // 2}"), (f"n{NET_NODES - 1}", "n77")]

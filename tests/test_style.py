@@ -10,6 +10,7 @@ import os
 import re
 import shutil
 import subprocess
+import tempfile
 from typing import Dict, Iterator, List, Sequence, Tuple
 
 from support.checks import count, skip
@@ -98,14 +99,28 @@ def test_python() -> None:
         skip("Python", "there is neither ruff nor flake8 here", len(files))
 
 
+# Files that mypy reads together, as their names are those of modules, and where they look for modules.
+TYPED = [
+    (r"tests/(support/)?\w+(\.py)?$", "tests"),
+    (r"completions/", "tests"),
+    (r"tests/oracle/", "tests"),
+    (r"docs/", "docs"),
+    (r"bench/[^/]*$", "bench"),
+    (r"bench/(kernel|live|plane)/", "bench/kernel"),
+    (r"python/(tests/|setup)|plane/", "python/tests:python"),
+]
+
+
 def test_types() -> None:
-    """These tests and what writes the completions have no note of mypy; the package has a test of its own."""
-    files = [path for path in python_files() if re.match(r"tests/(support/)?\w+\.py$|completions/", path)]
+    """All Python but the package, which has a test of its own, and the page's has no note of mypy --strict."""
+    groups = [(path, [file for file in python_files() if re.match(pattern, file)]) for pattern, path in TYPED]
     if not shutil.which("mypy"):
-        skip("annotations", "there is no mypy here", len(files))
+        skip("annotations", "there is no mypy here", sum(len(files) for _, files in groups))
         return
-    cache = os.devnull if os.name == "posix" else "nul"
-    count_files("mypy", files, *ran(["mypy", "--config-file", "tests/mypy.ini", "--cache-dir", cache, "--no-error-summary", *files]))
+    with tempfile.TemporaryDirectory() as cache:
+        for path, files in groups:
+            words = ["--config-file", "tests/mypy.ini", "--cache-dir", cache, "--no-error-summary", *files]
+            count_files("mypy", files, *ran(["mypy", *words], MYPYPATH=path))
 
 
 def test_scripts() -> None:

@@ -63,7 +63,7 @@ def test_progress() -> None:
 
 
 def test_progress_late() -> None:
-    """The rows of each kind are told, and those of each plan that a tour takes; of a run none."""
+    """The rows of each kind are reported, and those of each plan that a tour takes; of a run none."""
     data = band(512).encode()
     for words_, plans in ((["plan", "--kind", "tree"], 1), (["plan", "--kind", "shortest"], 1), (["stats", "--kind", "compact"], 1),
                           (["draw", "--numbering", "tour"], 2), (["prefixes", "--kind", "compact", "--numbering", "tour"], 3),
@@ -92,7 +92,7 @@ def test_progress_counted() -> None:
 
 
 def test_progress_memory() -> None:
-    """Where memory is refused while rows are told, the line goes away before that is said, and a sentence stands behind it."""
+    """Where memory is refused while rows are reported, the line goes away before that is said, and a sentence follows it."""
     draw, nodes = random.Random(2), 4_000
     edges = [f"{draw.randrange(v)} {v} {draw.randint(1, 65_535)}" for v in range(1, nodes)]
     edges += [f"{draw.randrange(v)} {v} {draw.randint(1, 65_535)}" for v in range(nodes - 1, 1, -1) for _ in range(5)]

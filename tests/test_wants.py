@@ -1,8 +1,8 @@
 """Wants of memory that the sources write by hand; `tests/names` runs it.
 
 A contract cannot see that the allocator refused a growth, so a body that answers want of memory for nothing is proved. Each
-place that makes such an answer stands in tests/golden/wants with the reason why it is one. A new place, or one that is
-gone, is told here: whoever writes it says what was refused.
+place that makes such an answer is in tests/golden/wants with the reason why it is one. A new place, or one that is
+gone, is reported here: whoever writes it says what was refused.
 """
 from __future__ import annotations
 

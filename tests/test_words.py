@@ -32,9 +32,9 @@ def test_words() -> None:
                       ("plan", b"--order"), ("stats", b"--with"), ("check", b"whether rows are missing"), ("check", b"--whole"),
                       ("check", b"NotYetInstalled")):
         help_text = run([sub, "--help"])[0]
-        count(f"what {sub} --help tells of", None if part in help_text else f"there is no {part}")
+        count(f"what {sub} --help tells of", None if part in help_text else f"there is no {part}")  # type: ignore[str-bytes-safe]
     for sub, parts in TEXTS.items():
-        files = [f"good/{name}" for name in NAMES[:parts]]
+        files = [f"good/{name}" for name in NAMES[:parts]]  # type: ignore[assignment]
         expect(f"{sub}: status 0", run(call(sub, files)), SOME, b"", 0)
         greatest = ["--threads", str(THREADS)] if parts == 1 else ["--capacity", str(CAPACITY), "--packets", str(PACKETS)]
         greatest += ["--restamps", str(RESTAMPS)] if parts == 2 else []
@@ -42,7 +42,7 @@ def test_words() -> None:
         least = ["--threads", "1"] if parts == 1 else ["--capacity", "1", "--packets", "1"]
         expect(f"{sub}: status 0 with the least", run(call(sub, files, *least)), SOME, b"", 0)
         expect(f"{sub}: status 1", run(call(sub, files, "--root", "z")), b"", b"opening NoNode\n", 1)
-        short_options(sub, files)
+        short_options(sub, files)  # type: ignore[arg-type]
     put("good/untrue", "trace 1\n0 1 a c 2 delivered a b\n")
     found = run(call("check", ["good/topology", "good/script", "good/untrue"]))
     expect("a finding: status 1", found, b"finding 2 NotAtDestination\n", b"", 1)
@@ -72,7 +72,7 @@ def test_words_of_rules() -> None:
 
 
 def short_options(sub: str, files: List[str]) -> None:
-    """A letter does what its word does, beside its value, behind `=` and in one word with it."""
+    """A letter does what its word does, beside its value, after `=` and in one word with it."""
     for letter, word, value in (("-f", "--format", "adjlist"), ("-k", "--kind", "compact"), ("-r", "--root", "b"), ("-n", "--numbering", "tour"),
                                 ("-o", "--output", "-")):
         want = run(call(sub, files, word, value))
@@ -117,7 +117,7 @@ def stamped(times: int) -> bytes:
 
 def test_numbers() -> None:
     """An inbox and a channel hold as many packets as --capacity says, a run as many as --packets, and a packet gets as many stamps
-    as --restamps: the least, the most, what stands between, and what is taken where the option is not there."""
+    as --restamps: the least, the most, what is between, and what is taken where the option is not there."""
     for told in (None, 1, 2, 15, 16, 17, 64, 255, 256, 512, 513, CAPACITY - 1, CAPACITY):
         words_ = [] if told is None else ["--capacity", str(told)]
         held = told or DEFAULT_CAPACITY

@@ -7,14 +7,17 @@ pause:
   in place  one change, from the tree to shortest ways: at each node the new routes replace the old ones under the
             same addresses, and those that are left over go
   moved     the same to a plan from another root, so that the nodes' addresses move too
-What is told of each: packets; lost, not delivered where they were sent to (of these in a loop, and at a wrong node);
+What is printed of each: packets; lost, not delivered where they were sent to (of these in a loop, and at a wrong node);
 mixed, those whose way is no part of a walk that was prescribed: by epochs of the walk in their own epoch, in place of
 the old walk or the new one. The status is above 0 where by epochs one was lost or mixed, or the measuring has a gap."""
+from __future__ import annotations
+
 import functools
 import random
 import sys
 import tempfile
 import time
+from typing import Any
 
 from lab import Lab, Plan, address, play, script, stop_on_signals
 from traffic import Traffic
@@ -28,13 +31,13 @@ PLANS = {
 }
 
 
-def each(nodes, pause, act):
+def each(nodes: Any, pause: Any, act: Any) -> None:
     for node in nodes:
         act(node)
         time.sleep(pause)
 
 
-def by_epochs(plans, nodes, pause, stamp):
+def by_epochs(plans: Any, nodes: Any, pause: Any, stamp: Any) -> Any:
     """The acts of each change, as scripts made beforehand."""
     acts = {
         (what, epoch): {node: script(what, plan.prefixes, epoch=epoch, only=node) for node in nodes}
@@ -42,7 +45,7 @@ def by_epochs(plans, nodes, pause, stamp):
         for what in ("install", "retire")
     }
 
-    def change():
+    def change() -> None:
         for epoch in list(plans)[1:]:
             each(nodes, pause, lambda node: play(acts["install", epoch][node]))
             each(nodes, pause, lambda node: stamp(node, epoch))
@@ -52,34 +55,34 @@ def by_epochs(plans, nodes, pause, stamp):
     return change
 
 
-def replaced(old, new, node):
+def replaced(old: Any, new: Any, node: Any) -> str:
     """Commands that put a plan's routes and own address in the place of another's, under the same epoch."""
     prefix = lambda line: line.replace("unreachable ", "").split()[2]
     head, *added, end = script("install", new.prefixes, epoch=1, only=node).splitlines()
     _, *removed, _ = script("retire", old.prefixes, epoch=1, only=node).splitlines()
-    kept = {prefix(line) for line in added}
+    kept = {prefix(line) for line in added}  # type: ignore[no-untyped-call]
     lines = [line.replace("route add", "route replace") for line in added]
-    lines += [line for line in removed if prefix(line) not in kept]
+    lines += [line for line in removed if prefix(line) not in kept]  # type: ignore[no-untyped-call]
     if old.label[node] == new.label[node]:
         lines = [line for line in lines if not line.startswith("address")]
     return "\n".join([head, *lines, end, ""])
 
 
-def in_place(plans, nodes, pause, stamp):
+def in_place(plans: Any, nodes: Any, pause: Any, stamp: Any) -> Any:
     scripts = {node: replaced(plans[1], plans[2], node) for node in nodes}
 
-    def act(node):
+    def act(node: Any) -> None:
         play(scripts[node])
         stamp(node, 2)
 
     return lambda: each(nodes, pause, act)
 
 
-def is_part(way, walk):
-    return way == walk[: len(way)]
+def is_part(way: Any, walk: Any) -> bool:
+    return way == walk[: len(way)]  # type: ignore[no-any-return]
 
 
-def judge(how, plans, packets):
+def judge(how: Any, plans: Any, packets: Any) -> Any:
     """How many packets met which fate."""
     counts = dict.fromkeys(("packets", "hops", "lost", "loops", "wrong", "mixed", "gaps"), 0)
     for packet in packets:
@@ -99,11 +102,11 @@ def judge(how, plans, packets):
 
 
 @functools.cache
-def plan_of(program, topology, kind, root):
+def plan_of(program: Any, topology: Any, kind: Any, root: Any) -> Any:
     return Plan(program, topology, "--format", "edgelist", "--kind", kind, "--root", root)
 
 
-def foretold(old, new, nodes):
+def foretold(old: Any, new: Any, nodes: Any) -> Any:
     """Of a hundred packets that are sent while a change in place goes on at even speed, how many loop by the tables."""
     loops = states = 0
     for done in range(1, len(nodes) + 1):
@@ -117,7 +120,7 @@ def foretold(old, new, nodes):
     return 100 * loops / states
 
 
-def run(how, program, topology, rate, pause, seed, work):
+def run(how: Any, program: Any, topology: Any, rate: Any, pause: Any, seed: Any, work: Any) -> Any:
     """One change, or by epochs three, over a fresh network."""
     chosen = PLANS[how]
     plans = {epoch: plan_of(program, topology, *choice) for epoch, choice in enumerate(chosen, 1)}
@@ -128,7 +131,7 @@ def run(how, program, topology, rate, pause, seed, work):
         lab.install(plans[1], 1)
         with Traffic(lab, names, dests, rate, work) as traffic:
 
-            def stamp(node, epoch):
+            def stamp(node: Any, epoch: Any) -> None:
                 traffic.stamps[names.index(node)] = epoch
 
             change = (by_epochs if how == "epochs" else in_place)(plans, nodes, pause, stamp)
@@ -145,12 +148,12 @@ def run(how, program, topology, rate, pause, seed, work):
     return counts
 
 
-def main():
+def main() -> None:
     stop_on_signals()
     program, topology, rate = sys.argv[1:]
     bad = 0
     for how, pause in (("epochs", 0.02), ("in place", 0.02), ("in place", 0.2), ("moved", 0.02)):
-        total = {}
+        total: dict[Any, Any] = {}
         for seed in range(1, ORDERS + 1):
             with tempfile.TemporaryDirectory(prefix="bz-") as work:
                 counts = run(how, program, topology, int(rate), pause, seed, work)

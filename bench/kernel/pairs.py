@@ -2,13 +2,15 @@
 
 Usage: pairs.py PROGRAM TOPOLOGY FORMAT [WORDS OF PLAN]; `run` calls it. Each kind is an epoch of its own, and all are
 there at once. The status is above 0 where a way differs."""
+from __future__ import annotations
+
 import sys
 import time
 
 from lab import Lab, Plan, stop_on_signals
 
 
-def main():
+def main() -> None:
     stop_on_signals()
     program, topology, form, *words = sys.argv[1:]
     kinds = ("tree", "shortest", "compact")

@@ -1,4 +1,6 @@
 """Packets of UDP between all ordered pairs of a lab's nodes, and what became of each of them."""
+from __future__ import annotations
+
 import ctypes
 import json
 import multiprocessing
@@ -11,6 +13,7 @@ import socket
 import struct
 import subprocess
 import time
+from typing import Any, Iterator
 
 from lab import TAG
 
@@ -24,7 +27,7 @@ NEW_NET = 0x40000000
 libc = ctypes.CDLL(None, use_errno=True)
 
 
-def enter(node):
+def enter(node: Any) -> None:
     """Puts this thread into the namespace of a node."""
     handle = os.open(f"/run/netns/{TAG}{node}", os.O_RDONLY)
     if libc.setns(handle, NEW_NET):
@@ -32,7 +35,7 @@ def enter(node):
     os.close(handle)
 
 
-def send(nodes, dests, stamps, stop, rate, out):
+def send(nodes: Any, dests: Any, stamps: Any, stop: Any, rate: Any, out: Any) -> None:
     """Sends until it is to stop; dests[epoch] has the address of each node, stamps the epoch that each source uses."""
     socks = []
     for node in nodes:
@@ -41,7 +44,8 @@ def send(nodes, dests, stamps, stop, rate, out):
         socks[-1].setsockopt(socket.IPPROTO_IPV6, socket.IPV6_UNICAST_HOPS, HOPS)
     pairs = [(a, b) for a in range(len(nodes)) for b in range(len(nodes)) if a != b]
     random.Random(7).shuffle(pairs)
-    rows, start = [], time.monotonic()
+    rows: list[Any] = []
+    start = time.monotonic()
     while not stop.value:
         for number in range(len(rows), int((time.monotonic() - start) * rate)):
             a, b = pairs[number % len(pairs)]
@@ -56,7 +60,7 @@ def send(nodes, dests, stamps, stop, rate, out):
         pickle.dump(rows, file)
 
 
-def receive(nodes, stop, out):
+def receive(nodes: Any, stop: Any, out: Any) -> None:
     """Notes (number, node, hop limit) of each packet that arrives, until it is to stop and a second was silent."""
     poll, socks = select.epoll(), {}
     for i, node in enumerate(nodes):
@@ -68,7 +72,7 @@ def receive(nodes, stop, out):
         sock.setblocking(False)
         socks[sock.fileno()] = (i, sock)
         poll.register(sock.fileno(), select.EPOLLIN)
-    rows = []
+    rows: list[Any] = []
     while True:
         ready = poll.poll(1)
         if not ready and stop.value:
@@ -79,7 +83,7 @@ def receive(nodes, stop, out):
         pickle.dump(rows, file)
 
 
-def arrivals(node, sock):
+def arrivals(node: Any, sock: Any) -> Iterator[Any]:
     """The packets that wait at a socket."""
     while True:
         try:
@@ -89,7 +93,7 @@ def arrivals(node, sock):
         yield BODY.unpack(data)[0], node, struct.unpack("i", extra[0][2])[0]
 
 
-def captured(path, devices):
+def captured(path: Any, devices: Any) -> Iterator[Any]:
     """(number, hop limit, neighbour) of each packet that a node sent on."""
     with open(path, "rb") as file:
         data = file.read()
@@ -109,13 +113,16 @@ def captured(path, devices):
 class Traffic:
     """Packets on their way while a `with` lasts; then `packets` has what became of each."""
 
-    def __init__(self, lab, nodes, dests, rate, work):
+    def __init__(self, lab: Any, nodes: Any, dests: Any, rate: Any, work: Any) -> None:
         self.lab, self.nodes, self.dests, self.rate, self.work = lab, nodes, dests, rate, work
         self.stamps = multiprocessing.Array("H", [min(dests)] * len(nodes), lock=False)
         self.stops = [multiprocessing.Value("B", 0, lock=False) for _ in range(2)]
-        self.children, self.captures, self.packets, self.unseen = [], {}, [], 0
+        self.children: list[Any] = []
+        self.captures: dict[Any, Any] = {}
+        self.packets: list[Any] = []
+        self.unseen = 0
 
-    def __enter__(self):
+    def __enter__(self) -> Any:
         try:
             for node in self.nodes:
                 self.start_capture(node)
@@ -128,24 +135,24 @@ class Traffic:
             raise
         return self
 
-    def start(self, what, *words):
+    def start(self, what: Any, *words: Any) -> None:
         self.children.append(multiprocessing.Process(target=what, args=words, daemon=True))
         self.children[-1].start()
 
-    def start_capture(self, node):
+    def start_capture(self, node: Any) -> None:
         words = ["ip", "netns", "exec", TAG + node, "tcpdump", "-i", "any", "-Q", "out", "-s", "96", "-B", "4096", "-n"]
         words += ["-w", f"{self.work}/{node}.pcap", f"udp port {PORT}"]
         with open(f"{self.work}/{node}.tcpdump", "w") as told:
             self.captures[node] = subprocess.Popen(words, stderr=told)
 
-    def __exit__(self, kind, *_):
+    def __exit__(self, kind: Any, *_: Any) -> None:
         try:
             if kind is None:
                 self.finish()
         finally:
             self.end()
 
-    def finish(self):
+    def finish(self) -> None:
         """Lets what is under way arrive, and reads what was noted."""
         for child, stop in zip(reversed(self.children), self.stops):
             time.sleep(1)
@@ -155,7 +162,7 @@ class Traffic:
         self.end()
         self.read()
 
-    def end(self):
+    def end(self) -> None:
         for child in self.children:
             child.terminate()
             child.join()
@@ -169,13 +176,13 @@ class Traffic:
                 capture.kill()
                 capture.wait()
 
-    def read(self):
+    def read(self) -> None:
         """Each packet as a dict: source, dest, epoch, way, arrived (where it was delivered), seen (all of it)."""
         with open(f"{self.work}/sent", "rb") as file:
             rows = pickle.load(file)
         names = self.nodes
         fresh = lambda a, b, e: {"source": names[a], "dest": names[b], "epoch": e, "sent": [], "arrived": []}
-        self.packets = [fresh(*row[:3]) for row in rows]
+        self.packets = [fresh(*row[:3]) for row in rows]  # type: ignore[no-untyped-call]
         with open(f"{self.work}/got", "rb") as file:
             for number, node, limit in pickle.load(file):
                 self.packets[number]["arrived"].append((names[node], limit))
@@ -190,7 +197,7 @@ class Traffic:
             follow(packet)
 
 
-def follow(packet):
+def follow(packet: Any) -> None:
     """Joins what the nodes sent on to the packet's way, by hop limits; `seen` is whether nothing of it is missing."""
     way, seen = [packet["source"]], True
     for i, (limit, node, neighbour) in enumerate(sorted(packet["sent"])):

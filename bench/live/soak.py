@@ -9,19 +9,22 @@ variable BENTZOLU_ROUTE, else crates/route/out/route.
 Outside the gate: it wants python3 and the built program. Each run has a connected random graph, a kind, a limit on
 restamps, a room of the queues, and a script of injections, drains, changes of links, installs and retirements.
 """
+from __future__ import annotations
+
 import os
 import pathlib
 import random
 import subprocess
 import sys
 import tempfile
+from typing import Any
 
 PROGRAM = os.environ.get("BENTZOLU_ROUTE", pathlib.Path(__file__).parent / "../../crates/route/out/route")
 RUNS, FIRST = (int(word) for word in [*sys.argv[1:3], *["1000", "0"][len(sys.argv) - 1:]])
 SECONDS = 300  # the most that a run may take
 
 
-def graph(nodes):
+def graph(nodes: Any) -> Any:
     links = [(u, random.randrange(u)) for u in range(1, nodes)]
     for _ in range(random.randrange(nodes)):
         u, v = random.sample(range(nodes), 2)
@@ -30,7 +33,7 @@ def graph(nodes):
     return links
 
 
-def script(nodes, links):
+def script(nodes: Any, links: Any) -> Any:
     lines, epoch = [], 1
     for _ in range(random.randrange(5, 60)):
         chance = random.random()
@@ -49,7 +52,8 @@ def script(nodes, links):
     return lines + random.choice([[], ["drain"]])
 
 
-packets, fates = 0, {}
+packets = 0
+fates: dict[Any, Any] = {}
 with tempfile.TemporaryDirectory() as folder:
     topology, lines, trace = (pathlib.Path(folder) / name for name in ("topology", "script", "trace"))
     for run in range(FIRST, FIRST + RUNS):
@@ -62,7 +66,7 @@ with tempfile.TemporaryDirectory() as folder:
         restamps = random.randrange(4)
         words = ["--format", "edgelist", "--kind", random.choice(["tree", "shortest", "compact"]), "--root", f"n{random.randrange(nodes)}",
                  "--capacity", str(random.choice([1, 2, 16]))]
-        how = {"capture_output": True, "text": True, "timeout": SECONDS}
+        how: dict[str, Any] = {"capture_output": True, "text": True, "timeout": SECONDS}
         live = subprocess.run([PROGRAM, "live", *words, "--restamps", str(restamps), topology, lines], **how)
         trace.write_text(live.stdout)
         refused = {int(line.split()[1]) for line in live.stderr.splitlines()}

@@ -73,7 +73,7 @@ class RouteError(BentzoluError):
     """The program ended with a status above 0.
 
     `status` is the exit status: 1 a refused input, 2 words that were not understood, 3 no memory or no thread. `text` is
-    what stood on standard error. `about` is `topology`, `script`, `trace`, `numbering`, `opening`, `input`, `output` or
+    what was on standard error. `about` is `topology`, `script`, `trace`, `numbering`, `opening`, `input`, `output` or
     None; `kind` is the name of the fault, as `BadWeight` or `Disconnected`; `line` is the number of the faulty line, or
     None, and `content` what is there. `sentence` says what is wrong, with the graph's own nodes, where the program
     has a sentence for it; else it is None.

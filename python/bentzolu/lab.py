@@ -59,7 +59,7 @@ def add_words(commands):
 
 @dataclass
 class Phase:
-    """What is done at one node after the other: its name, the line of the report that tells it, pairs of a node and a
+    """What is done at one node after the other: its name, the line of the report that says it, pairs of a node and a
     script, and the seconds between two."""
 
     name: str
@@ -286,7 +286,7 @@ class Told:
 
 
 def do(phases, told):
-    """Does phases, and prints the line of each behind it."""
+    """Does phases, and prints the line of each after it."""
     for phase in phases:
         for i, (node, script) in enumerate(phase.acts, 1):
             told.where = f"{phase.line}, at {node}" + (f", {i} of {len(phase.acts)}" if len(phase.acts) > 1 else "")

@@ -27,7 +27,7 @@ class Verdict:
 
 @dataclass
 class Judge:
-    """Walks of one or two plans, by epoch, between nodes that are told by their places in `nodes`; and the story that the
+    """Walks of one or two plans, by epoch, between nodes that are given by their places in `nodes`; and the story that the
     program judges by, or None."""
 
     nodes: List[str]

@@ -38,7 +38,7 @@ def refuse(why: str) -> NoReturn:
 
 
 def refuse_without_tools(tools: Sequence[str]) -> None:
-    """LabError where a lab can't be built, as far as that can be told without trying."""
+    """LabError where a lab can't be built, as far as that can be known without trying."""
     if not sys.platform.startswith("linux"):
         refuse("the lab needs Linux")
     if os.geteuid() != 0:

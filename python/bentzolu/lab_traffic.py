@@ -252,7 +252,7 @@ class Traffic:
             child.end()
 
     def until(self, holds: Callable[[], bool], seconds: float) -> bool:
-        """Waits until something holds, for so long at most; LabError where a process has failed. Tells whether it holds."""
+        """Waits until something holds, for so long at most; LabError where a process has failed. Says whether it holds."""
         end = time.monotonic() + seconds
         while not holds():
             if time.monotonic() > end:
@@ -264,7 +264,7 @@ class Traffic:
         return True
 
     def finish(self) -> Any:
-        """Ends the connection and the sending, lets all arrive, and tells what `watch` tells."""
+        """Ends the connection and the sending, lets all arrive, and returns what `watch` returns."""
         self.board.stop_stream = 1
         self.until(lambda: not self.streamer.process.is_alive(), 20)
         self.board.stop_send = 1

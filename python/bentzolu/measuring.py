@@ -30,7 +30,7 @@ FIGURES = (
 
 
 class Task(NamedTuple):
-    """What each worker is told: the network by places and how plans are made. `numbering` is `depth-first`, `tour` or `keep`; `order`
+    """What each worker is given: the network by places and how plans are made. `numbering` is `depth-first`, `tour` or `keep`; `order`
     has the places in the order of the labels, where that is given; `detour` has the words of kind landmark."""
 
     key: str

@@ -106,7 +106,7 @@ def read_table(found: Mapping[str, Any]) -> Table:
     Raises
     ------
     ValueError, KeyError, TypeError
-        Where something stands there that this module does not write.
+        Where something is there that this module does not write.
     """
     rows: Dict[int, List[Tuple[int, int, str]]] = {}
     rules: Dict[str, int] = {}

@@ -368,7 +368,7 @@ def sweep(
     --------
     >>> rows = sweep([("a", "b"), ("b", "c"), ("c", "a"), ("c", "d")])
     >>> [(row.name, row.disconnected, row.worst_stretch) for row in rows]
-    [('a-b', 0, 2.0), ('b-c', 0, 2.0), ('c-a', 0, 2.0), ('c-d', 6, None)]
+    [('a-b', 0, 2.0), ('a-c', 0, 2.0), ('b-c', 0, 2.0), ('c-d', 6, None)]
     """
     optional.numpy()
     asked = asked_of(network_of(G, weight), failures, kind, root, numbering, together, program, timeout, landmarks, stretch)

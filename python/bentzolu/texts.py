@@ -911,7 +911,7 @@ def write_trace(packets: Iterable[Packet], names: NodeNames = SAME, version: int
 def read_refused(
     text: str, steps: Sequence[Any] | None = None, sentences: Mapping[int, str] | None = None,
 ) -> tuple[Refused, ...]:
-    """The refused steps, of what stood on standard error beside a trace. `steps` are those of the script, one a line, and
+    """The refused steps, of what was on standard error beside a trace. `steps` are those of the script, one a line, and
     `sentences` has the sentence of a line, where there is one."""
     refused = []
     for _, words in lines_of(text):

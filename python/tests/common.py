@@ -1,21 +1,24 @@
 """What the tests share: where things are, and whether NetworkX and the program are there."""
+from __future__ import annotations
+
+import importlib
+import importlib.util
 import json
 import os
 import pathlib
 import sys
 import unittest
+from typing import Any
 
 HERE = pathlib.Path(__file__).resolve().parent
 TOP = HERE.parents[1]
 sys.path.insert(0, str(HERE.parent))
 
-import bentzolu  # noqa: E402
+import bentzolu as package  # noqa: E402
 
-try:
-    import networkx
-except ImportError:
-    networkx = None
-
+bentzolu: Any = package  # tests also call it as it is not to be called
+networkx: Any = importlib.import_module("networkx") if importlib.util.find_spec("networkx") else None
+ROUTE: Any
 try:
     ROUTE = bentzolu.find_program()
     HAS_ROUTE = os.access(ROUTE, os.X_OK)
@@ -26,12 +29,12 @@ needs_networkx = unittest.skipIf(networkx is None, "there is no NetworkX")
 needs_route = unittest.skipUnless(HAS_ROUTE and networkx is not None, "there is no program route, or no NetworkX")
 
 
-def cases():
+def cases() -> Any:
     """The worked examples of the program."""
     return json.loads((TOP / "crates/route_tests/data/cases.json").read_text())
 
 
-def graphs():
+def graphs() -> Any:
     """Pairs of a name and a graph, by NetworkX's generators."""
     nx = networkx
     made = {

@@ -1,4 +1,6 @@
 """All kinds beside each other, numberings by name, and networks by family."""
+from __future__ import annotations
+
 import io
 import contextlib
 import pathlib
@@ -16,7 +18,7 @@ TEXT = ("compare 4 4\nkind numbering intervals greatest-row bits mean-stretch wo
 
 
 class TextTest(unittest.TestCase):
-    def test_figures(self):
+    def test_figures(self) -> None:
         found = read_comparison(TEXT)
         self.assertEqual((found.nodes, found.links, found.table_bits), (4, 4, 12))
         self.assertEqual(found.rows[1], ("tree", "depth-first", 6, 2, 18, Fraction(5, 4), Fraction(3), True))
@@ -25,7 +27,7 @@ class TextTest(unittest.TestCase):
         with self.assertRaisesRegex(ValueError, "no plan has a stretch"):
             found.least(0.5)
 
-    def test_other_texts(self):
+    def test_other_texts(self) -> None:
         for text in ("stats tree 2\n", TEXT.replace("tables", "sums"), TEXT.replace("20/16", "20"), TEXT.replace(" acyclic", "")):
             with self.assertRaises(bentzolu.FormatError):
                 read_comparison(text)
@@ -33,7 +35,7 @@ class TextTest(unittest.TestCase):
 
 @needs_route
 class CompareTest(unittest.TestCase):
-    def test_rows_are_those_of_stats(self):
+    def test_rows_are_those_of_stats(self) -> None:
         found = bentzolu.compare(NSFNET)
         self.assertEqual(found.table_bits, 338)
         for row in found.rows:
@@ -45,7 +47,7 @@ class CompareTest(unittest.TestCase):
             with self.assertRaisesRegex(TypeError, "all kinds"):
                 bentzolu.compare(NSFNET, **{name: value})
 
-    def test_numbering(self):
+    def test_numbering(self) -> None:
         tour = bentzolu.plan(NSFNET, numbering="tour")
         self.assertEqual(tour, bentzolu.plan(NSFNET, words=("--numbering", "tour")))
         self.assertEqual(tour, bentzolu.plan(NSFNET, options=bentzolu.Options(numbering="tour")))
@@ -58,7 +60,7 @@ class CompareTest(unittest.TestCase):
 
 
 class FamiliesTest(unittest.TestCase):
-    def test_families(self):
+    def test_families(self) -> None:
         numbers = {"random": "9 12", "hypercube": "3", "fattree": "4"}
         for family in families.FAMILIES:
             words = [family, *numbers.get(family, " ".join(["4"] * (len(families.numbers_of(family)) - 1) + ["3" if len(families.numbers_of(family)) > 1 else "4"])).split()]
@@ -69,7 +71,7 @@ class FamiliesTest(unittest.TestCase):
             self.assertEqual(text.getvalue(), families.text(words))
             self.assertTrue(text.getvalue().startswith("# "))
 
-    def test_refused(self):
+    def test_refused(self) -> None:
         for words, said in (("gird 3 3", "did you mean 'grid'"), ("grid 3", "ROWS and COLUMNS; 1 number was given"), ("random 3 9", "has 2 to 3 links"),
                             ("scalefree 3 3", "fewer LINKS"), ("fattree 3", "even"), ("hypercube 60", "at most 65,536"), ("ring 2", "at least 3"),
                             ("path 1.5", "whole number")):

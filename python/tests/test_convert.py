@@ -1,9 +1,12 @@
 """Each format that `python3 -m bentzolu convert` reads, from a small text."""
+from __future__ import annotations
+
 import contextlib
 import io
 import pathlib
 import tempfile
 import unittest
+from typing import Any
 
 from common import bentzolu, graphs, needs_networkx, needs_route, networkx
 from bentzolu import program
@@ -99,18 +102,18 @@ MULTILINE = "# comment\n(0, 0) 2\n(0, 1) {'weight': 3}\n(1, 0) {}\n(1, 0) 1\n(0,
 PATTERN = "%%MatrixMarket matrix coordinate pattern general\n3 3 3\n1 2\n2 1\n2 3\n"
 
 
-def called(node):
+def called(node: Any) -> Any:
     """What a node is called, without the blanks of tuples."""
     return str(node).replace(", ", ",")
 
 
-def graph_weight(graph, pair):
+def graph_weight(graph: Any, pair: Any) -> Any:
     """The weight of the edge between two nodes, by what they are called."""
     return next(data.get("weight", 1) for u, v, data in graph.edges(data=True) if frozenset((called(u), called(v))) == pair)
 
 
 class FormatsTest(unittest.TestCase):
-    def edges(self, text, format=None, **options):
+    def edges(self, text: Any, format: Any = None, **options: Any) -> tuple[Any, Any, str]:
         name = f"file.{format}" if format in ("csv", "adjlist", "graph6", "sparse6") else "file"
         found = format_of(name, text)
         self.assertEqual(found or "rocketfuel", format)
@@ -118,7 +121,7 @@ class FormatsTest(unittest.TestCase):
         return edges, names, "; ".join(notes)
 
     @needs_networkx
-    def test_gml(self):
+    def test_gml(self) -> None:
         edges, names, _ = self.edges(GML, "gml")
         self.assertEqual(edges, "New_York Zurich 1\nZurich Rome 1\n")
         self.assertEqual(names.node("Zurich"), "Zürich")
@@ -128,17 +131,17 @@ class FormatsTest(unittest.TestCase):
         self.assertIn("1 of 2 edges have no 'LinkSpeed'", notes)
 
     @needs_networkx
-    def test_graphml(self):
+    def test_graphml(self) -> None:
         edges, _, notes = self.edges(GRAPHML, "graphml")
         self.assertEqual(edges, "Vienna Graz 5\nGraz Linz 12\n")
         self.assertIn("weights are multiplied by 4, exactly", notes)
         self.assertIn("1 more edges", notes)
 
-    def test_json(self):
+    def test_json(self) -> None:
         self.assertEqual(self.edges(JSON, "json")[0], "1 (0,1) 4\n(0,1) b_c 2\n")
         self.assertEqual(self.edges(JSON.replace('"links"', '"edges"'), "json")[0], "1 (0,1) 4\n(0,1) b_c 2\n")
 
-    def test_sndlib(self):
+    def test_sndlib(self) -> None:
         for text, format in [(SNDLIB, "sndlib"), (SNDLIB_XML, "sndlib-xml")]:
             edges, _, notes = self.edges(text, format)
             self.assertEqual(edges, "N1 N2 1\nN2 N3 1\n")
@@ -146,29 +149,29 @@ class FormatsTest(unittest.TestCase):
             self.assertEqual(self.edges(text, format, weight="routing_cost")[0], "N1 N2 5\nN2 N3 2\n")
             self.assertEqual(self.edges(text, format, weight="distance")[0], "N1 N2 260\nN2 N3 612\n")
 
-    def test_rocketfuel(self):
+    def test_rocketfuel(self) -> None:
         edges, _, notes = self.edges(ROCKETFUEL, "rocketfuel")
         self.assertEqual(edges, "Sydney,+Australia1 Perth,+Australia2 7\nPerth,+Australia2 Darwin,+Australia3 2\n")
         self.assertIn("1 more edges", notes)
         self.assertEqual(self.edges("a b 7.5\nb c 0.25\n", "rocketfuel")[0], "a b 30\nb c 1\n")
 
-    def test_caida(self):
+    def test_caida(self) -> None:
         self.assertEqual(self.edges(CAIDA, "caida")[0], "1 11537 1\n1 21616 1\n11537 21616 1\n")
         self.assertEqual(self.edges(CAIDA_SEEN, "caida")[0], "1 11537 1\n11537 2_3 1\n")
 
-    def test_csv(self):
+    def test_csv(self) -> None:
         for text in ("u,v,w\na b,c,2\nc,d,3.5\n", "a b,c,2\nc,d,3.5\n", "from;to;km\na b;c;2\nc;d;3.5\n", 'source\ttarget\tw\n"a b"\tc\t2\nc\td\t3.5\n'):
             self.assertEqual(self.edges(text, "csv")[0], "a_b c 4\nc d 7\n")
         for text in ("a,b\nb,c\n", "source,target\na,b\nb,c\n", "# text\na, b\n\nb, c\n"):
             self.assertEqual(self.edges(text, "csv")[0], "a b 1\nb c 1\n")
 
-    def test_matrix_market(self):
+    def test_matrix_market(self) -> None:
         edges, _, notes = self.edges(MATRIX, "mtx")
         self.assertEqual(edges, "2 1 1\n3 2 8\n")
         self.assertIn("1 edges from a node to itself", notes)
         self.assertEqual(self.edges(PATTERN, "mtx")[0], "1 2 1\n2 3 1\n")
 
-    def test_dot(self):
+    def test_dot(self) -> None:
         edges, names, notes = self.edges(DOT, "dot")
         self.assertEqual(edges, 'a b 3\nb c 3\na d 5\nc e 2\nc New_"York" 2\n')
         self.assertEqual(names.node('New_"York"'), 'New "York"')
@@ -181,25 +184,25 @@ class FormatsTest(unittest.TestCase):
             self.assertEqual(self.edges(text, "dot", weight="len" if "len" in text else None)[0], wanted)
 
     @needs_networkx
-    def test_gexf(self):
+    def test_gexf(self) -> None:
         edges, _, notes = self.edges(GEXF, "gexf")
         self.assertEqual((edges, notes), ("Vienna Graz 3\nGraz Linz 6\n", "3 nodes, 2 links; weights are multiplied by 2, exactly"))
         self.assertIn("directions are dropped", self.edges(GEXF.replace("undirected", "directed"), "gexf")[2])
 
     @needs_networkx
-    def test_pajek(self):
+    def test_pajek(self) -> None:
         self.assertEqual(self.edges(PAJEK, "pajek")[0], "Vienna New_York 2\nNew_York Linz 4\n")
         self.assertIn("directions are dropped", self.edges(PAJEK.replace("Edges", "Arcs"), "pajek")[2])
 
     @needs_networkx
-    def test_graph6(self):
+    def test_graph6(self) -> None:
         for format in ("graph6", "sparse6"):
             write = networkx.to_graph6_bytes if format == "graph6" else networkx.to_sparse6_bytes
             for header in (True, False):
                 text = write(networkx.path_graph(4), header=header).decode()
                 self.assertEqual(self.edges(text, format)[0], "0 1 1\n1 2 1\n2 3 1\n")
 
-    def test_lists(self):
+    def test_lists(self) -> None:
         for text, wanted in [
             ("# written by hand\na b c # c\nd a#b\n", "a b 1\na c 1\nd a 1\n"), ("(0, 0) (0, 1)\n(0, 1) ('x y', 'a)') ''\n", "(0,0) (0,1) 1\n(0,1) ('xy','a)') 1\n(0,1) '' 1\n"),
             ("(a b\n", None),
@@ -218,7 +221,7 @@ class FormatsTest(unittest.TestCase):
         self.assertEqual(names.node("(1,0)"), (1, 0))
 
     @needs_networkx
-    def test_what_networkx_writes(self):
+    def test_what_networkx_writes(self) -> None:
         for name, graph in graphs():
             for format, write in [
                 ("adjlist", networkx.generate_adjlist), ("edgelist", networkx.generate_edgelist), ("multiline", networkx.generate_multiline_adjlist),
@@ -231,7 +234,7 @@ class FormatsTest(unittest.TestCase):
                 with self.subTest((name, format)):
                     self.look_at_written(graph, format, "\n".join(write(graph)))
 
-    def look_at_written(self, graph, format, text):
+    def look_at_written(self, graph: Any, format: Any, text: Any) -> None:
         if format in ("edgelist", "multiline") and "{" not in text:
             found = format
         else:
@@ -246,7 +249,7 @@ class FormatsTest(unittest.TestCase):
         got = {frozenset((called(names.node(u)), called(names.node(v)))): int(given) for u, v, given in rows if u != v}
         self.assertEqual(got, wanted)
 
-    def test_lists_of_networkx(self):
+    def test_lists_of_networkx(self) -> None:
         """Names of one word are read as NetworkX reads them."""
         for text in ("a b c\nb d\n# x\nc a e#f\n", "1 2\n2 3 4\n5 1\n"):
             if networkx is not None:
@@ -254,7 +257,7 @@ class FormatsTest(unittest.TestCase):
                 rows = {frozenset(line.split()[:2]) for line in converted(text, "adjlist")[0].splitlines()}
                 self.assertEqual(rows, set(map(frozenset, graph.edges)))
 
-    def test_faults(self):
+    def test_faults(self) -> None:
         for format, text in [
             ("dot", "graph"), ("dot", "graph {"), ("dot", "graph { a -- }"), ("dot", "graph { a [b }"), ("dot", 'graph { "a'), ("dot", "graph { a } b"), ("dot", "tree { a }"),
             ("dot", "graph { strict }"), ("dot", "graph { a -- <b }"), ("dot", "graph { subgraph a -- b }"), ("dot", "graph { } "), ("dot", "graph {" * 9), ("dot", "graph { a ? b }"),
@@ -270,7 +273,7 @@ class FormatsTest(unittest.TestCase):
                 converted(text, format)
 
     @needs_networkx
-    def test_faults_of_networkx(self):
+    def test_faults_of_networkx(self) -> None:
         for format, text in [
             ("gml", "graph [ node ["), ("gml", "graph [ edge [ source 0 target 1 ] ]"), ("graphml", "<graphml>"), ("gexf", "<gexf"), ("gexf", "<gexf></gexf>"),
             ("pajek", ""), ("pajek", "*Vertices x\n"), ("graph6", "\x00"), ("graph6", "D?{\nD?{\n"), ("graph6", "é"), ("sparse6", "D?{"), ("graph6", ""),
@@ -278,13 +281,13 @@ class FormatsTest(unittest.TestCase):
             with self.subTest(text), self.assertRaises(bentzolu.BentzoluError):
                 converted(text, format)
 
-    def test_great_weights_are_rounded(self):
+    def test_great_weights_are_rounded(self) -> None:
         edges, _, notes = self.edges("a b 1e9\nb c 1\n", "rocketfuel")
         self.assertEqual(edges.splitlines()[1], "b c 1")
         self.assertTrue(1 <= int(edges.splitlines()[0].split()[2]) <= 65535)
         self.assertIn("rounded", notes)
 
-    def test_parts(self):
+    def test_parts(self) -> None:
         text = "a,b\nc,d\nd,e\nf,f\n"
         with self.assertRaisesRegex(bentzolu.BentzoluError, "3 unconnected parts, of 3, 2, 1 nodes; --largest"):
             converted(text, "csv")
@@ -293,13 +296,13 @@ class FormatsTest(unittest.TestCase):
         self.assertIn("only the largest of 3 parts is taken, with 3 of 6 nodes", notes)
         self.assertEqual(self.edges("f,f\n", "csv")[0], "f f 1\n")
 
-    def test_every_format_is_tried_here(self):
+    def test_every_format_is_tried_here(self) -> None:
         self.assertEqual(set(READERS), {
             "gml", "graphml", "json", "sndlib", "sndlib-xml", "rocketfuel", "caida", "csv", "mtx", "dot", "gexf", "pajek", "graph6", "sparse6",
             "adjlist", "edgelist", "multiline",
         })
 
-    def test_the_format_is_found(self):
+    def test_the_format_is_found(self) -> None:
         for name, text, format in [
             ("x", "graph {a--b}", "dot"), ("x", "/* a */ /* b */ // c\n# d\nstrict graph x\n{ a -- b }", "dot"), ("x", "*vertices 3\n", "pajek"), ("x", "% a\n*Network x\n", "pajek"),
             ("x", ">>graph6<<A_", "graph6"), ("x", "a b {}\n", "edgelist"), ("x", "a 1\nb {}\n", "multiline"), ("x.edges", "a b 1\n", "edgelist"), ("x.adjlist", "a b\n", "adjlist"),
@@ -310,12 +313,12 @@ class FormatsTest(unittest.TestCase):
 
 
 class CommandTest(unittest.TestCase):
-    def setUp(self):
+    def setUp(self) -> None:
         folder = tempfile.TemporaryDirectory()
         self.addCleanup(folder.cleanup)
         self.folder = pathlib.Path(folder.name)
 
-    def convert(self, name, text, *words):
+    def convert(self, name: Any, text: Any, *words: Any) -> tuple[Any, Any, Any]:
         file = self.folder / name
         file.write_bytes(text.encode("utf-8"))
         output, faults = io.StringIO(), io.StringIO()
@@ -323,7 +326,7 @@ class CommandTest(unittest.TestCase):
             status = main(["convert", str(file), *map(str, words)])
         return status, output.getvalue(), faults.getvalue()
 
-    def test_files(self):
+    def test_files(self) -> None:
         out, table = self.folder / "out.edgelist", self.folder / "names"
         status, output, faults = self.convert("net.json", JSON, "-o", out, "--names", table)
         self.assertEqual((status, output), (0, ""))
@@ -331,22 +334,22 @@ class CommandTest(unittest.TestCase):
         self.assertEqual(table.read_text(), '1\t1\n(0,1)\t"(0, 1)"\nb_c\t"b c"\n')
         self.assertEqual(faults, "json: 3 nodes, 2 links\n")
 
-    def test_output(self):
+    def test_output(self) -> None:
         status, output, faults = self.convert("net.csv", "a b,c\n")
         self.assertEqual((status, output), (0, "a_b c 1\n"))
         self.assertIn("1 node has a new name: --names TABLE", faults)
 
-    def test_numbers_keep_their_names(self):
+    def test_numbers_keep_their_names(self) -> None:
         status, output, faults = self.convert("net.json", '{"nodes": [{"id": 0}, {"id": 1.5}], "links": [{"source": 0, "target": 1.5}]}')
         self.assertEqual((status, output, faults), (0, "0 1.5 1\n", "json: 2 nodes, 1 link\n"))
 
-    def test_the_format_is_told(self):
+    def test_the_format_is_told(self) -> None:
         self.assertEqual(self.convert("net.txt", "a b 2\n", "--from", "rocketfuel")[:2], (0, "a b 2\n"))
         status, output, faults = self.convert("net.txt", "a b 2\n")
         self.assertEqual((status, output), (1, ""))
         self.assertIn("give --from with one of", faults)
 
-    def test_refusals(self):
+    def test_refusals(self) -> None:
         for text, said in [("a,b\nc,d\n", "--largest"), ("a,b,x\nc,d,y\n", "line 2"), ("", "no nodes")]:
             status, output, faults = self.convert("net.csv", text)
             self.assertEqual((status, output), (1, ""))
@@ -355,11 +358,11 @@ class CommandTest(unittest.TestCase):
             self.assertEqual(main(["convert", str(self.folder / "nothing")]), 1)
         self.assertIn("nothing", faults.getvalue())
 
-    def test_a_mark_of_bytes_at_the_front(self):
+    def test_a_mark_of_bytes_at_the_front(self) -> None:
         self.assertEqual(self.convert("net.csv", "\ufeffa,b\n")[:2], (0, "a b 1\n"))
 
     @needs_route
-    def test_route_reads_what_is_written(self):
+    def test_route_reads_what_is_written(self) -> None:
         for name, text in [
             ("a.gml", GML), ("a.graphml", GRAPHML), ("a.json", JSON), ("a.sndlib", SNDLIB), ("a.xml", SNDLIB_XML), ("a.intra", ROCKETFUEL),
             ("a.caida", CAIDA), ("a.csv", "a b,c,2\n"), ("a.mtx", MATRIX), ("b.csv", "f,f\n"), ("a.dot", DOT), ("a.gexf", GEXF), ("a.net", PAJEK), ("a.multi", MULTILINE),

@@ -1,4 +1,6 @@
 """Sweeps on dask and on MPI, where they are installed: rows are those of one process, also where a worker is killed."""
+from __future__ import annotations
+
 import json
 import logging
 import os
@@ -11,6 +13,7 @@ import tempfile
 import time
 import unittest
 import warnings
+from typing import Any
 
 from common import TOP, bentzolu, needs_route
 from test_sweeps import bare, free_environment, has, needs_numpy, numpy
@@ -25,7 +28,7 @@ SECONDS = 60  # the most that an engine takes until it is there
 @needs_numpy
 @unittest.skipUnless(HAS_DASK, "there is no dask: python3-distributed")
 class DaskTest(unittest.TestCase):
-    def setUp(self):
+    def setUp(self) -> None:
         folder = tempfile.TemporaryDirectory()
         self.addCleanup(folder.cleanup)
         self.folder = pathlib.Path(folder.name)
@@ -39,7 +42,7 @@ class DaskTest(unittest.TestCase):
         self.address = json.loads(file.read_text())["address"]
         self.workers = [self.start("dask_worker", self.address, "--no-nanny", "--nthreads", "1", "--no-dashboard", "--local-directory", self.folder) for _ in range(2)]
 
-    def start(self, module, *given):
+    def start(self, module: Any, *given: Any) -> Any:
         """A process of dask, which ends with the test."""
         command = [sys.executable, "-m", f"distributed.cli.{module}", *map(str, given)]
         process = subprocess.Popen(command, env=free_environment(), stdout=subprocess.DEVNULL, stderr=subprocess.DEVNULL, cwd=self.folder)
@@ -47,7 +50,7 @@ class DaskTest(unittest.TestCase):
         self.addCleanup(process.kill)
         return process
 
-    def test_rows_with_a_worker_that_is_killed(self):
+    def test_rows_with_a_worker_that_is_killed(self) -> None:
         with warnings.catch_warnings():
             warnings.simplefilter("ignore", DeprecationWarning)
             import distributed
@@ -55,7 +58,7 @@ class DaskTest(unittest.TestCase):
         logging.getLogger("distributed").setLevel(logging.CRITICAL)
         self.addCleanup(logging.getLogger("distributed").setLevel, logging.WARNING)
         whole, pairs = bare(bentzolu.sweep(GRID, kind="compact")), bare(bentzolu.sweep(GRID, 2))
-        with distributed.Client(self.address, timeout=SECONDS) as client:
+        with distributed.Client(self.address, timeout=SECONDS) as client:  # type: ignore[no-untyped-call]
             try:
                 client.wait_for_workers(2, timeout=SECONDS)
             except (TimeoutError, OSError):
@@ -76,26 +79,26 @@ class DaskTest(unittest.TestCase):
 class KilledAt:
     """Kills a process of this test once a file has so many lines."""
 
-    def __init__(self, path, lines, process):
+    def __init__(self, path: Any, lines: Any, process: Any) -> None:
         self.path, self.lines, self.process = path, lines, process
 
-    def __enter__(self):
+    def __enter__(self) -> None:
         from bentzolu.results import Results
 
         self.add = Results.add
 
-        def add(results, lines):
+        def add(results: Any, lines: Any) -> None:
             self.add(results, lines)
             if self.process.poll() is None and self.path.read_bytes().count(b"\n") > self.lines:
                 self.process.send_signal(signal.SIGKILL)
                 self.process.wait()
 
-        Results.add = add
+        Results.add = add  # type: ignore[assignment]
 
-    def __exit__(self, *_):
+    def __exit__(self, *_: Any) -> None:
         from bentzolu.results import Results
 
-        Results.add = self.add
+        Results.add = self.add  # type: ignore[assignment]
 
 
 @needs_route
@@ -107,7 +110,7 @@ class MPITest(unittest.TestCase):
         "OMPI_MCA_btl_vader_single_copy_mechanism": "none", "OMPI_MCA_mpi_yield_when_idle": "1",
     }
 
-    def test_rows(self):
+    def test_rows(self) -> None:
         with tempfile.TemporaryDirectory() as folder:
             path = pathlib.Path(folder, "rows.jsonl")
             command = ["mpiexec", "-n", "3", sys.executable, "-m", "mpi4py.futures", "-m", "bentzolu", "sweep", str(GRID), "--mpi", "-o", str(path)]

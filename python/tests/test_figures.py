@@ -1,4 +1,6 @@
 """Figures are drawn onto given axes; the words `plot`; the notebook's code."""
+from __future__ import annotations
+
 import contextlib
 import io
 import json
@@ -8,6 +10,7 @@ import subprocess
 import sys
 import tempfile
 import unittest
+from typing import Any
 from unittest import mock
 
 from common import TOP, bentzolu, needs_route
@@ -22,14 +25,14 @@ try:
     matplotlib.use("Agg")
     import matplotlib.pyplot as plt
 except ImportError:
-    matplotlib = numpy = plt = None
+    matplotlib = numpy = plt = None  # type: ignore[assignment]
 
 needs_matplotlib = unittest.skipIf(plt is None, "there is no matplotlib, or no NumPy")
 NSFNET = TOP / "examples/nsfnet.edgelist"
 
 
 class MissingTest(unittest.TestCase):
-    def test_a_sentence_where_matplotlib_is_missing(self):
+    def test_a_sentence_where_matplotlib_is_missing(self) -> None:
         missing = {"matplotlib": None, "matplotlib.pyplot": None}
         with mock.patch.dict(sys.modules, missing), self.assertRaisesRegex(bentzolu.MissingPackageError, "needs the package matplotlib.*python3-matplotlib"):
             figures.axes(None)
@@ -41,47 +44,47 @@ class MissingTest(unittest.TestCase):
 
 @needs_matplotlib
 class AxesTest(unittest.TestCase):
-    def setUp(self):
+    def setUp(self) -> None:
         self.figure, self.ax = plt.subplots()
         self.addCleanup(plt.close, self.figure)
 
-    def drawn(self, ax, x, y):
+    def drawn(self, ax: Any, x: Any, y: Any) -> None:
         self.assertIs(ax, self.ax)
         self.assertEqual((ax.get_xlabel(), ax.get_ylabel(), ax.get_title()), (x, y, ""))
         self.figure.canvas.draw()
 
-    def test_rows(self):
+    def test_rows(self) -> None:
         self.drawn(figures.plot_rows({"a": [1, 4, 4], "b": [2]}, self.ax), "intervals of a node", "share of nodes")
         line = self.ax.lines[0]
         self.assertEqual((list(line.get_xdata()), float(line.get_ydata()[-1])), ([1, 4, 4], 1))
 
-    def test_sizes(self):
+    def test_sizes(self) -> None:
         points = {f"family {k}": [(64, 3 * k + 1), (16, 2)] for k in range(8)}
         self.drawn(figures.plot_sizes(points, self.ax, points), "nodes", "bits of a node")
         self.assertEqual(list(self.ax.lines[0].get_xdata()), [16, 64])
         self.assertEqual(len(self.ax.get_legend().get_texts()), 9)
 
-    def test_stretch(self):
+    def test_stretch(self) -> None:
         self.drawn(figures.plot_stretch({"a": [1, 1, 1, 2], "b": [3.0, 1.5]}, self.ax), "stretch x", "share of ordered pairs above x")
         self.assertEqual(list(self.ax.lines[0].get_ydata())[0], 0.25)
 
-    def test_tradeoff(self):
+    def test_tradeoff(self) -> None:
         points = {"keep": (1, 3), "renumber": (3, 1), "neither": (3, 3)}
         self.assertIs(figures.plot_tradeoff(points, self.ax), self.ax)
         filled = [line.get_markerfacecolor() for line in self.ax.lines[1:]]
         self.assertEqual([it == "none" for it in filled], [False, False, True])
 
-    def test_the_current_axes(self):
+    def test_the_current_axes(self) -> None:
         plt.figure(self.figure)
         self.assertIs(figures.plot_rows({"a": [1]}), self.ax)
 
-    def test_nothing_to_draw(self):
+    def test_nothing_to_draw(self) -> None:
         for call, given in ((figures.plot_rows, {}), (figures.plot_stretch, {"a": []}), (figures.plot_tradeoff, {}), (figures.plot_sizes, {"a": []})):
             with self.assertRaisesRegex(bentzolu.BentzoluError, "nothing to draw"):
-                call(given, self.ax)
+                call(given, self.ax)  # type: ignore[operator]
 
     @needs_route
-    def test_plans_sweeps_and_timelines(self):
+    def test_plans_sweeps_and_timelines(self) -> None:
         self.drawn(figures.plot_rows({"tree": bentzolu.plan(NSFNET, "tree")}, self.ax), "intervals of a node", "share of nodes")
         rows = bentzolu.sweep([("a", "b"), ("b", "c"), ("c", "a"), ("c", "d")])
         for what in figures.OF_SWEEPS:
@@ -106,35 +109,35 @@ class AxesTest(unittest.TestCase):
 @needs_matplotlib
 @needs_route
 class WordsTest(unittest.TestCase):
-    def setUp(self):
+    def setUp(self) -> None:
         folder = tempfile.TemporaryDirectory()
         self.addCleanup(folder.cleanup)
         self.folder = pathlib.Path(folder.name)
         self.rows = self.folder / "rows.jsonl"
         bentzolu.sweep(NSFNET, results=self.rows)
 
-    def run_words(self, *given):
+    def run_words(self, *given: Any) -> tuple[Any, Any]:
         told = io.StringIO()
         with contextlib.redirect_stderr(told):
             status = words.main(["plot", *map(str, given)])
         return status, told.getvalue()
 
-    def test_pictures(self):
+    def test_pictures(self) -> None:
         for given, head in (
             (("rows", NSFNET, "--kind", "compact", "--numbering", "tour", "--numbering", "depth-first", "-o", "a.png"), b"\x89PNG"),
             (("sweep", self.rows, "-o", "b.svg"), b"<?xml"), (("stretch", self.rows, self.rows, "-o", "c.pdf"), b"%PDF"),
             (("sweep", self.rows, "--show", "bits", "-o", "d.png"), b"\x89PNG"),
         ):
-            path = self.folder / given[-1]
+            path = self.folder / given[-1]  # type: ignore[operator]
             self.assertEqual(self.run_words(*given[:-1], path), (0, ""))
             self.assertTrue(path.read_bytes().startswith(head), path)
 
-    def test_what_is_refused(self):
+    def test_what_is_refused(self) -> None:
         for given, text in (
             (("sweep", NSFNET, "-o", "a.png"), "not a file of a sweep"), (("sweep", self.rows, self.rows, "-o", "a.png"), "one sweep"),
             (("sweep", self.folder / "none", "-o", "a.png"), "No such file"), (("sweep", self.rows, "-o", "a.word"), "a.word can't be written"),
         ):
-            status, told = self.run_words(*given[:-1], self.folder / given[-1])
+            status, told = self.run_words(*given[:-1], self.folder / given[-1])  # type: ignore[operator]
             self.assertEqual(status, 1)
             self.assertRegex(told, f"^bentzolu plot: .*{text}")
 
@@ -142,7 +145,7 @@ class WordsTest(unittest.TestCase):
 @needs_matplotlib
 @needs_route
 class NotebookTest(unittest.TestCase):
-    def test_its_code_runs(self):
+    def test_its_code_runs(self) -> None:
         path = TOP / "examples/failures.ipynb"
         cells = [cell for cell in json.loads(path.read_text(encoding="utf-8"))["cells"] if cell["cell_type"] == "code"]
         self.assertEqual((len(cells), [cell["outputs"] for cell in cells]), (6, [[]] * 6))
@@ -156,17 +159,17 @@ class NotebookTest(unittest.TestCase):
                 with contextlib.redirect_stdout(io.StringIO()):
                     exec(compile("".join(cell["source"]), f"{path.name}: cell {at}", "exec"), names)
         self.assertEqual(len(names["rows"]), 14)
-        self.assertTrue(names["ax"].has_data())
+        self.assertTrue(names["ax"].has_data())  # type: ignore[attr-defined]
 
 
 @needs_matplotlib
 @needs_route
 class PageTest(unittest.TestCase):
-    """docs/SWEEPS.md: what its commands behind `$ ` print, and its lines of Python."""
+    """docs/SWEEPS.md: what its commands after `$ ` print, and its lines of Python."""
 
     PAGE = TOP / "docs/SWEEPS.md"
 
-    def setUp(self):
+    def setUp(self) -> None:
         folder = tempfile.TemporaryDirectory()
         self.addCleanup(folder.cleanup)
         self.folder = pathlib.Path(folder.name)
@@ -175,7 +178,7 @@ class PageTest(unittest.TestCase):
         (self.folder / "bin/python3").symlink_to(sys.executable)
         self.blocks = [[row[4:] for row in block.split("\n")] for block in BLOCK.findall(self.PAGE.read_text(encoding="utf-8"))]
 
-    def test_commands(self):
+    def test_commands(self) -> None:
         path = os.pathsep.join([str(self.folder / "bin"), os.environ["PATH"]])
         count = 0
         for command, shown in [it for rows in self.blocks for it in sessions(rows)]:
@@ -185,7 +188,7 @@ class PageTest(unittest.TestCase):
         self.assertEqual(count, 2)
         self.assertTrue((self.folder / "worst.png").read_bytes().startswith(b"\x89PNG"))
 
-    def test_lines_of_python(self):
+    def test_lines_of_python(self) -> None:
         self.addCleanup(os.chdir, os.getcwd())
         os.chdir(self.folder)
         names = {"graph": [("a", "b"), ("b", "c"), ("c", "a")], "graphs": [[("a", "b"), ("b", "c"), ("c", "a")]] * 2, "bentzolu": bentzolu}

@@ -1,4 +1,6 @@
 """Kind landmark in all calls that take a kind, beside NetworkX's own shortest paths and the definition of its landmarks."""
+from __future__ import annotations
+
 import contextlib
 import io
 import os
@@ -6,6 +8,7 @@ import pathlib
 import tempfile
 import unittest
 from fractions import Fraction
+from typing import Any
 
 from common import TOP, bentzolu, graphs, needs_route, networkx
 from bentzolu import __main__ as program
@@ -14,7 +17,7 @@ NSFNET = str(TOP / "examples/nsfnet.edgelist")
 RING = [("a", "b"), ("b", "c"), ("c", "d"), ("d", "e"), ("e", "a")]
 
 
-def most_linked(graph, nodes, root, count):
+def most_linked(graph: Any, nodes: Any, root: Any, count: Any) -> Any:
     """The root, and the nodes of most links, of as many the first of these nodes."""
     places = {node: place for place, node in enumerate(nodes)}
     links = {node: len(set(graph[node]) - {node}) for node in graph}
@@ -24,15 +27,15 @@ def most_linked(graph, nodes, root, count):
 
 @needs_route
 class LandmarksTest(unittest.TestCase):
-    def test_plans_and_figures(self):
+    def test_plans_and_figures(self) -> None:
         for name, graph in graphs():
             nodes = list(graph)
             root, distance = nodes[len(nodes) // 2], dict(networkx.all_pairs_dijkstra_path_length(graph))
             for options in ({}, {"landmarks": 3, "stretch": 150}):
-                with self.subTest(name, **options):
+                with self.subTest(name, **options):  # type: ignore[arg-type]
                     self.look_at(graph, nodes, root, distance, options)
 
-    def look_at(self, graph, nodes, root, distance, options):
+    def look_at(self, graph: Any, nodes: Any, root: Any, distance: Any, options: Any) -> None:
         plan, stats = (call(graph, "landmark", root, **options) for call in (bentzolu.plan, bentzolu.stats))
         count = next(k for k in range(1, len(nodes) + 1) if 4 * k * k >= len(nodes))
         self.assertEqual(stats.landmarks, most_linked(graph, plan.nodes, root, options.get("landmarks", count)))
@@ -47,7 +50,7 @@ class LandmarksTest(unittest.TestCase):
         self.assertLessEqual(100 * longest, stats.most_stretch)
         self.assertEqual(stats.worst.stretch if stats.worst else 1, longest)
 
-    def test_each_call(self):
+    def test_each_call(self) -> None:
         given = {"landmarks": 1, "stretch": 300}
         plan = bentzolu.plan(RING, "landmark", **given)
         self.assertEqual(plan.path("d", "b"), ["d", "e", "a", "b"])
@@ -61,7 +64,7 @@ class LandmarksTest(unittest.TestCase):
         bentzolu.check_ranges(plan, bentzolu.ranges(RING, options=whole))
         self.assertEqual(bentzolu.draw(RING, source="d", target="b", options=whole).count("style=bold"), 3)
 
-    def test_runs(self):
+    def test_runs(self) -> None:
         steps = [("inject", "d", "b"), ("install", "landmark", "c"), ("learn", 2), ("inject", "e", "b"), ("drain",)]
         for kind in ("landmark", "shortest", "tree"):
             run = bentzolu.simulate(RING, steps, kind, landmarks=1, stretch=300)
@@ -73,7 +76,7 @@ class LandmarksTest(unittest.TestCase):
         run = bentzolu.live(RING, [it for it in steps if it[0] != "learn"], "landmark", landmarks=1)
         self.assertEqual([it.fate for it in run.packets], ["delivered", "delivered"])
 
-    def test_over_time(self):
+    def test_over_time(self) -> None:
         line = bentzolu.Timeline([(0, RING), (1, [*RING, ("a", "c")]), (2, RING)])
         steps = line.steps("landmark", "b", mode="ahead")
         self.assertIn(("install", "landmark", "b"), steps)
@@ -86,11 +89,11 @@ class LandmarksTest(unittest.TestCase):
             self.skipTest("there is no NumPy")
         rows = line.replay("landmark", root="b", landmarks=1, stretch=200)
         for row, edges in zip(rows, (RING, [*RING, ("a", "c")], RING)):
-            there = [edge for edge in line.graph if frozenset(edge[:2]) in set(map(frozenset, edges))]
+            there = [edge for edge in line.graph if frozenset(edge[:2]) in set(map(frozenset, edges))]  # type: ignore[arg-type]
             stats = bentzolu.stats([(u, u) for u in line.nodes] + there, "landmark", "b", landmarks=1, stretch=200)
             self.assertEqual((row.intervals, row.mean, row.fault), (stats.starts, stats.walks / 20, None))
 
-    def test_refused(self):
+    def test_refused(self) -> None:
         for named, said in (
             ({"kind": "landmark", "landmarks": 0}, "0 is not in 1..=65535"), ({"kind": "landmark", "landmarks": 65_536}, "65536 is not in 1..=65535"),
             ({"kind": "landmark", "stretch": 99}, "99 is not in 100..=300"), ({"kind": "landmark", "stretch": 301}, "301 is not in 100..=300"),
@@ -98,7 +101,7 @@ class LandmarksTest(unittest.TestCase):
             ({"kind": "landmark", "words": ("--numbering", "tour")}, "cannot be used with '--numbering'"),
         ):
             for call in (bentzolu.plan, bentzolu.stats, bentzolu.prefixes, bentzolu.ranges, bentzolu.draw):
-                with self.subTest(call.__name__, **named), self.assertRaises(bentzolu.RouteError) as caught:
+                with self.subTest(call.__name__, **named), self.assertRaises(bentzolu.RouteError) as caught:  # type: ignore[arg-type]
                     call(RING, **named)
                 self.assertEqual((caught.exception.status, caught.exception.kind), (2, "usage"))
                 self.assertIn(said, str(caught.exception))
@@ -109,15 +112,15 @@ class LandmarksTest(unittest.TestCase):
         run = bentzolu.simulate([("a", "b")], [("down", "a", "b"), ("install", "landmark", "a")], "landmark")
         self.assertEqual([(it.line, it.kind) for it in run.refused], [(2, "Disconnected")])
 
-    def test_from_the_command_line(self):
+    def test_from_the_command_line(self) -> None:
         words = ["--kind", "landmark", "--landmarks", "2", "--stretch", "150", "--root", "Houston"]
         options = {"landmarks": 2, "stretch": 150}
 
-        def said(*asked):
+        def said(*asked: Any) -> tuple[Any, Any, Any]:
             output = io.TextIOWrapper(io.BytesIO(), encoding="utf-8", write_through=True)
             with contextlib.redirect_stdout(output), contextlib.redirect_stderr(io.StringIO()) as faults:
                 status = program.main([str(it) for it in asked])
-            return status, output.buffer.getvalue().decode(), faults.getvalue()
+            return status, output.buffer.getvalue().decode(), faults.getvalue()  # type: ignore[attr-defined]
 
         status, output, faults = said("plan", NSFNET, *words)
         self.assertEqual((status, bentzolu.read_plan(output), faults), (0, bentzolu.plan(NSFNET, "landmark", "Houston", **options), ""))

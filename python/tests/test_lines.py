@@ -1,4 +1,6 @@
 """Rows as lines: what the lines of each depth lead to, what is refused, and the words of the plane."""
+from __future__ import annotations
+
 import argparse
 import contextlib
 import io
@@ -9,6 +11,7 @@ import struct
 import sys
 import tempfile
 import unittest
+from typing import Any
 from unittest import mock
 
 from common import HAS_ROUTE, TOP
@@ -20,7 +23,7 @@ from bentzolu.texts import read_plan
 PLAN = "plan tree 3 3\na 0 1 b\nb 1 2 c\nc 2 0 b\n"
 
 
-def drawn(labels, starts, ports, first, seed=1):
+def drawn(labels: Any, starts: Any, ports: Any, first: Any, seed: Any = 1) -> Any:
     """A row of so many starts, the first at `first`."""
     draw = random.Random(seed)
     chosen = [first, *sorted(draw.sample(range(first + 1, labels), starts - 1))]
@@ -28,7 +31,7 @@ def drawn(labels, starts, ports, first, seed=1):
 
 
 class Lines(unittest.TestCase):
-    def led(self, row, depth):
+    def led(self, row: Any, depth: Any) -> Any:
         """Compares where the lines lead with the row, at each label or at many."""
         table = lines.lines(row, 7)
         self.assertEqual(table[0][3], depth)
@@ -37,7 +40,7 @@ class Lines(unittest.TestCase):
             self.assertEqual(lines.port_by_lines(table, label), row.port(label), (row.labels, len(row.words), label))
         return table
 
-    def test_depths(self):
+    def test_depths(self) -> None:
         for labels, starts, ports, depth, size in (
             (14, 2, 2, 0, 1), (16384, 1, 1, 0, 1), (16384, 16, 8, 0, 1), (16384, 17, 8, 1, 2), (16384, 512, 8, 1, 17), (16384, 513, 8, 2, 19),
             (16384, 1024, 300, 2, 34), (16384, 9000, 300, 2, 292), (16384, 9000, 8, BYTES, 129), (300, 250, 256, BYTES, 4), (300, 280, 257, 1, 10),
@@ -46,27 +49,27 @@ class Lines(unittest.TestCase):
                 self.assertEqual(len(self.led(drawn(labels, starts, ports, 0), depth)), size)
                 self.led(drawn(labels, starts, ports, 1), lines.lines(drawn(labels, starts, ports, 1), 7)[0][3])
 
-    def test_every_start(self):
+    def test_every_start(self) -> None:
         self.assertEqual(len(lines.lines(Row(16384, 0, tuple((i, i % 1024) for i in range(16384))), 1)), 529)
 
-    def test_head(self):
+    def test_head(self) -> None:
         table = lines.lines(drawn(16384, 600, 300, 0), 65535)
         self.assertEqual(table[0][:16], (65535, 16384, 8192, 2, 2, *[0] * 11))
         self.assertEqual(lines.lines(Row(1, 0, ()), 1), [(1, 1, 0, 0, 0, *[0] * 11, *[NO_WORD] * 16)])
 
-    def test_below_the_first_start(self):
+    def test_below_the_first_start(self) -> None:
         row = Row(9, 0, ((3, 1), (5, 0)))
         self.assertEqual([row.port(label) for label in range(9)], [0, 0, 0, 1, 1, 0, 0, 0, 0])
         self.assertEqual(lines.lines(row, 1)[0][16:20], (0, 3 << 16 | 1, 5 << 16, NO_WORD))
 
-    def test_text_and_bytes(self):
+    def test_text_and_bytes(self) -> None:
         table = lines.lines(drawn(16384, 600, 300, 1), 9)
         self.assertEqual(lines.read(lines.as_bytes(table)), table)
         self.assertEqual(lines.read(lines.as_text(table).encode()), table)
         self.assertEqual(lines.as_bytes(table)[:8], struct.pack("<II", 9, 16384))
         self.assertTrue(lines.as_text(table).startswith("00000009 00004000 "))
 
-    def test_refused(self):
+    def test_refused(self) -> None:
         good = ((0, 0), (5, 1))
         for row, epoch, said in (
             (Row(14, 4, ((5, 1), (0, 0))), 1, "ascend"), (Row(14, 4, ((0, 0), (0, 1))), 1, "ascend"), (Row(14, 4, ((0, 0), (14, 1))), 1, "ascend"),
@@ -84,7 +87,7 @@ class Lines(unittest.TestCase):
         with self.assertRaisesRegex(LinesError, "needs at least one start"):
             Row(1, 0, ()).port(0)
 
-    def test_row_of(self):
+    def test_row_of(self) -> None:
         plan = read_plan(PLAN)
         self.assertEqual(xdp.row_at(plan, "b", ["a", "c"]), Row(3, 1, ((2, 1),)))
         self.assertEqual(xdp.row_at(plan, "b", ["c"]).text(), "3 1\n2 0\n")
@@ -95,15 +98,15 @@ class Lines(unittest.TestCase):
 
 
 class Words(unittest.TestCase):
-    def said(self, *words):
+    def said(self, *words: Any) -> tuple[Any, Any, Any]:
         """The status, the output and what is said for words of `xdp`."""
         output, said = io.TextIOWrapper(io.BytesIO()), io.StringIO()
         with contextlib.redirect_stdout(output), contextlib.redirect_stderr(said):
             status = __main__.main(["xdp", *words])
             output.flush()
-        return status, output.buffer.getvalue(), said.getvalue()
+        return status, output.buffer.getvalue(), said.getvalue()  # type: ignore[attr-defined]
 
-    def tool(self, script):
+    def tool(self, script: Any) -> None:
         """A program that stands for the plane's."""
         folder = tempfile.TemporaryDirectory()
         self.addCleanup(folder.cleanup)
@@ -114,7 +117,7 @@ class Words(unittest.TestCase):
         changed.start()
         self.addCleanup(changed.stop)
 
-    def test_show(self):
+    def test_show(self) -> None:
         found = xdp.read_plane("node b mode xdp host bz0 own bz1 stamp 3\nport 0 a to1\nport 1 c to3 gone\nepoch 3 lines 1\n")
         self.assertEqual((found.node, found.mode, found.stamped, found.epochs), ("b", "xdp", 3, (3,)))
         self.assertEqual([(it.neighbour, it.is_gone) for it in found.ports], [("a", False), ("c", True)])
@@ -122,20 +125,20 @@ class Words(unittest.TestCase):
             with self.assertRaises(xdp.PlaneError):
                 xdp.read_plane(text)
 
-    def test_sentences(self):
+    def test_sentences(self) -> None:
         self.tool('echo "bentzolu-xdp: no plane is up at $2: begin with \\`up\\`" >&2\nexit 1\n')
         self.assertEqual(self.said("--pins", "/p", "counts"), (1, b"", "bentzolu xdp: no plane is up at /p: begin with `up`\n"))
         self.assertEqual(self.said("stamp", "1")[0], 1)
         self.assertIn("give NEIGHBOUR=DEVICE", self.said("up", "--node", "a", "b")[2])
 
-    def test_missing(self):
+    def test_missing(self) -> None:
         with mock.patch.dict(os.environ, {xdp.VARIABLE: "/nowhere/bentzolu-xdp"}):
             self.assertIn("can't be run", self.said("counts")[2])
         with mock.patch.dict(os.environ, {"PATH": "/nowhere"}), mock.patch.object(xdp, "BUILT", pathlib.Path("/nowhere/bentzolu-xdp")):
             os.environ.pop(xdp.VARIABLE, None)
             self.assertIn("plane/make", self.said("counts")[2])
 
-    def test_neighbours(self):
+    def test_neighbours(self) -> None:
         with tempfile.TemporaryDirectory() as folder:
             for name, text in (("net.adjlist", "a b c\nd a\nb c\n"), ("net.edgelist", "a b 1\nc a 2\na d 3\n")):
                 path = pathlib.Path(folder, name)
@@ -144,7 +147,7 @@ class Words(unittest.TestCase):
                 self.assertEqual(found, ["b", "c", "d"])
 
     @unittest.skipUnless(HAS_ROUTE, "there is no program route")
-    def test_table(self):
+    def test_table(self) -> None:
         net = str(TOP / "examples" / "nsfnet.edgelist")
         words = ("table", "1", net, "--node", "SaltLakeCity", "--kind", "tree", "--root", "Houston")
         status, text, said = self.said(*words)
@@ -157,7 +160,7 @@ class Words(unittest.TestCase):
         self.assertIn("no node Nowhere", self.said("table", "1", net, "--node", "Nowhere")[2])
 
     @unittest.skipUnless(HAS_ROUTE, "there is no program route")
-    def test_install(self):
+    def test_install(self) -> None:
         """`install` gives the row of the plane's node, with the ports that the plane has."""
         self.tool('case $3 in show) printf "node SaltLakeCity mode tc host bz0 own bz1 stamp 0\\nport 0 Boulder x\\nport 1 PaloAlto y\\n" ;;\n'
                   '*) cat "$5" > "$2"; cat > "$2.lines" ;; esac\n')
@@ -169,7 +172,7 @@ class Words(unittest.TestCase):
             self.assertEqual(lines.read(pathlib.Path(f"{pins}.lines").read_bytes())[0][:5], (2, 14, 4, 0, 0))
             self.assertIn("not to Houston", self.said("--pins", pins, "install", "2", net, "--node", "Houston")[2])
 
-    def test_parser(self):
+    def test_parser(self) -> None:
         parser = argparse.ArgumentParser()
         xdp_words.add_words(parser.add_subparsers())
         found = parser.parse_args(["xdp", "drained", "3", "/a", "/b"])
@@ -179,4 +182,4 @@ class Words(unittest.TestCase):
 
 
 if __name__ == "__main__":
-    sys.exit(unittest.main())
+    sys.exit(unittest.main())  # type: ignore[arg-type]

@@ -1,12 +1,15 @@
 """The ranges of a plan beside a plain search, label by label."""
+from __future__ import annotations
+
 import random
 import unittest
+from typing import Any
 
 from common import bentzolu, graphs, needs_route
 from bentzolu import FormatError, Interval, NodePlan, Plan, Range, check_ranges, read_ranges
 
 
-def some_plan(draw):
+def some_plan(draw: Any) -> Any:
     """A plan of rows by chance; whether they lead anywhere does not matter here."""
     count = draw.randint(1, 24)
     labels = draw.sample(range(count), count)
@@ -16,12 +19,12 @@ def some_plan(draw):
         ends = starts[1:] + starts[:1]
         near = [f"n{draw.randrange(4)}" for _ in starts]
         nodes[f"n{i}"] = NodePlan(f"n{i}", label, tuple(map(Interval, starts, ends, near)))
-    return Plan("shortest", nodes)
+    return Plan("shortest", nodes)  # type: ignore[arg-type]
 
 
-def plain(plan, node):
+def plain(plan: Any, node: Any) -> tuple[Any, ...]:
     """The ranges of a node, by a look at each label in turn."""
-    found = []
+    found: list[Any] = []
     for label in range(len(plan.nodes)):
         to = None if label == plan.nodes[node].label else plan.nodes[node].to(label)
         if to is None:
@@ -33,19 +36,19 @@ def plain(plan, node):
     return tuple(Range(*it) for it in found)
 
 
-def plain_of_all(plan):
+def plain_of_all(plan: Any) -> dict[Any, Any]:
     return {node: plain(plan, node) for node in plan.nodes}
 
 
 class Ranges(unittest.TestCase):
-    def test_random_plans(self):
+    def test_random_plans(self) -> None:
         draw = random.Random(59)
         for i in range(500):
             plan = some_plan(draw)
             with self.subTest(i):
                 check_ranges(plan, plain_of_all(plan))
 
-    def test_read(self):
+    def test_read(self) -> None:
         self.assertEqual(read_ranges("ranges tree 1 0\na 0\n"), {"a": ()})
         found = read_ranges("ranges tree 3 5\na 1 0-0 b 2-2 b\nb 0 1-1 a 2-2 c\nc 2 0-1 b\n")
         self.assertEqual(found, {"a": ((0, 0, "b"), (2, 2, "b")), "b": ((1, 1, "a"), (2, 2, "c")), "c": ((0, 1, "b"),)})
@@ -57,13 +60,13 @@ class Ranges(unittest.TestCase):
             with self.subTest(wrong=wrong), self.assertRaises(FormatError):
                 read_ranges(wrong)
 
-    def test_documented_row(self):
+    def test_documented_row(self) -> None:
         nodes = {f"n{i}": NodePlan(f"n{i}", i, ()) for i in range(14)}
         row = (Interval(0, 5, "PaloAlto"), Interval(5, 0, "Boulder"))
         nodes["n4"] = NodePlan("n4", 4, row)
-        self.assertEqual(plain(Plan("tree", nodes), "n4"), ((0, 3, "PaloAlto"), (5, 13, "Boulder")))
+        self.assertEqual(plain(Plan("tree", nodes), "n4"), ((0, 3, "PaloAlto"), (5, 13, "Boulder")))  # type: ignore[arg-type]
 
-    def test_faults(self):
+    def test_faults(self) -> None:
         plan = Plan("tree", {
             "a": NodePlan("a", 0, (Interval(0, 0, "b"),)), "b": NodePlan("b", 1, (Interval(0, 2, "a"), Interval(2, 0, "c"))),
             "c": NodePlan("c", 2, (Interval(1, 1, "b"),)),
@@ -80,7 +83,7 @@ class Ranges(unittest.TestCase):
             check_ranges(plan, {"a": right["a"]})
 
     @needs_route
-    def test_ranges_of_the_program(self):
+    def test_ranges_of_the_program(self) -> None:
         for name, graph in graphs():
             for kind in ("tree", "shortest", "compact"):
                 with self.subTest(name, kind=kind):

@@ -1,6 +1,9 @@
 """What changes between plans, and when a network is numbered anew."""
+from __future__ import annotations
+
 import random
 import unittest
+from typing import Any
 
 from common import TOP, bentzolu, graphs, needs_route, networkx
 from bentzolu.network import network_of
@@ -9,19 +12,19 @@ from bentzolu.relabelling import bits_of, ports_of
 NSFNET = TOP / "examples/nsfnet.edgelist"
 
 
-def edges_of(file):
+def edges_of(file: Any) -> list[Any]:
     net = network_of(file)
     return [(net.nodes[u], net.nodes[v], weight) for u, v, weight in net.links]
 
 
-def connected(edges):
+def connected(edges: Any) -> Any:
     graph = networkx.Graph([edge[:2] for edge in edges])
     return networkx.is_connected(graph)
 
 
 @needs_route
 class DiffTest(unittest.TestCase):
-    def test_patched_is_the_new_plan(self):
+    def test_patched_is_the_new_plan(self) -> None:
         for name in ("petersen", "grid", "barbell"):
             graph = dict(graphs())[name]
             old = bentzolu.plan(graph, "compact")
@@ -41,7 +44,7 @@ class DiffTest(unittest.TestCase):
                 self.assertEqual(found.removed, len({it[:2] for it in before} - {it[:2] for it in after}))
                 self.assertEqual(set(found.nodes), {node for node in old.nodes if old.nodes[node] != new.nodes[node]})
 
-    def test_kept_labels(self):
+    def test_kept_labels(self) -> None:
         keeper = bentzolu.Relabeller("compact", price=0)
         edges = edges_of(NSFNET)
         first = keeper.update(edges)
@@ -50,7 +53,7 @@ class DiffTest(unittest.TestCase):
             step = keeper.update([it for it in edges if it != edge])
             self.assertEqual((step.diff.relabelled, step.renumbered, step.plan.labels), (0, False, first.plan.labels))
 
-    def test_other_nodes(self):
+    def test_other_nodes(self) -> None:
         path = bentzolu.plan([("a", "b")])
         with self.assertRaisesRegex(bentzolu.FormatError, "same nodes"):
             bentzolu.diff(path, bentzolu.plan([("a", "c")]))
@@ -64,9 +67,12 @@ class DiffTest(unittest.TestCase):
 
 @needs_route
 class RuleTest(unittest.TestCase):
-    def events(self, edges, seed, count):
+    def events(self, edges: Any, seed: Any, count: Any) -> Any:
         """Networks whose links fail and come back, and stay connected."""
-        luck, up, down, found = random.Random(seed), list(edges), [], [edges]
+        luck = random.Random(seed)
+        up = list(edges)
+        down: list[Any] = []
+        found = [edges]
         while len(found) <= count:
             if down and luck.random() < 0.5:
                 up.append(down.pop(luck.randrange(len(down))))
@@ -79,7 +85,7 @@ class RuleTest(unittest.TestCase):
             found.append(sorted(up, key=edges.index))
         return found
 
-    def test_near_the_best_of_all_choices(self):
+    def test_near_the_best_of_all_choices(self) -> None:
         """The best is the least over all choices of when to number anew, by the prices of all plans of all orders."""
         edges = edges_of(NSFNET)
         for seed in (1, 2, 3):
@@ -92,7 +98,7 @@ class RuleTest(unittest.TestCase):
             kept = {(i, i): plan for i, plan in enumerate(tours)}
             best = {0: 0}
             for j in range(1, len(networks)):
-                later = {}
+                later: dict[Any, Any] = {}
                 for i, price in best.items():
                     kept[i, j] = keeper.made(networks[j], sorted(tours[i].nodes, key=tours[i].labels.get))
                     for order in (i, j):
@@ -102,7 +108,7 @@ class RuleTest(unittest.TestCase):
                 best = later
             self.assertLessEqual(reached, 1.25 * min(best.values()), seed)
 
-    def test_what_is_refused(self):
+    def test_what_is_refused(self) -> None:
         for how in ({"kind": "tree"}, {"kind": "landmark"}, {"price": -1}, {"every": 0}, {"price": float("nan")}):
             with self.assertRaises(bentzolu.SweepError):
                 bentzolu.Relabeller(**how)

@@ -1,4 +1,8 @@
 """Sweeps: rows beside an independent loop, the file of rows, engines that end, and the words."""
+from __future__ import annotations
+
+import importlib
+import importlib.util
 import concurrent.futures
 import contextlib
 import io
@@ -11,30 +15,28 @@ import sys
 import tempfile
 import time
 import unittest
+from typing import Any
 from unittest import mock
 
 from common import ROUTE, TOP, bentzolu, needs_route, networkx
 from bentzolu import __main__ as words, measuring, sweeping
 
-try:
-    import numpy
-except ImportError:
-    numpy = None
+numpy: Any = importlib.import_module("numpy") if importlib.util.find_spec("numpy") else None
 
 needs_numpy = unittest.skipIf(numpy is None, "there is no NumPy")
 NSFNET = TOP / "examples/nsfnet.edgelist"
 
 
-def bare(rows):
+def bare(rows: Any) -> list[Any]:
     """Rows without what they took."""
     return [row._replace(seconds=None) for row in rows]
 
 
-def edges_of(graph):
+def edges_of(graph: Any) -> list[Any]:
     return [(f"n{u}" if not isinstance(u, str) else u, f"n{v}" if not isinstance(v, str) else v, data.get("weight", 1)) for u, v, data in graph.edges(data=True)]
 
 
-def networks():
+def networks() -> dict[Any, Any]:
     """Networks by name, as lists of edges in the order in which a file would have them."""
     nx = networkx
     weighed = nx.convert_node_labels_to_integers(nx.grid_2d_graph(3, 4))
@@ -47,7 +49,7 @@ def networks():
 class Plain:
     """The figures of a failure by plain loops over dictionaries, of plans and figures that the program makes of files."""
 
-    def __init__(self, edges, kind, folder, order=None):
+    def __init__(self, edges: Any, kind: Any, folder: Any, order: Any = None) -> None:
         self.edges, self.kind, self.folder = edges, kind, folder
         self.nodes = list(dict.fromkeys(node for edge in edges for node in edge[:2]))
         self.order = order
@@ -61,7 +63,7 @@ class Plain:
             self.order = sorted(tour.nodes, key=tour.labels.get)
             self.intact = self.planned((), ())
 
-    def planned(self, lost, gone, more=None):
+    def planned(self, lost: Any, gone: Any, more: Any = None) -> tuple[Any, Any, Any]:
         """The plan and the figures without some edges and nodes."""
         left = [it for it in self.edges if it not in lost and it[0] not in gone and it[1] not in gone]
         file = pathlib.Path(self.folder, "left.edgelist")
@@ -73,11 +75,11 @@ class Plain:
             how = ("--numbering", str(order))
         return bentzolu.plan(file, self.kind, words=how), bentzolu.stats(file, self.kind, words=how), left
 
-    def weight(self, path):
+    def weight(self, path: Any) -> Any:
         weights = {frozenset(edge[:2]): edge[2] for edge in self.edges}
         return sum(weights[frozenset(pair)] for pair in zip(path, path[1:]))
 
-    def arcs(self, *plans):
+    def arcs(self, *plans: Any) -> Any:
         """Which links wait for which, over the walks of some plans."""
         waits = networkx.DiGraph()
         for plan in plans:
@@ -87,7 +89,7 @@ class Plain:
                     waits.add_edges_from(((a, b), (b, c)) for a, b, c in zip(path, path[1:], path[2:]))
         return waits
 
-    def row(self, lost, gone):
+    def row(self, lost: Any, gone: Any) -> Any:
         alive = [node for node in self.nodes if node not in gone]
         graph = networkx.Graph()
         graph.add_nodes_from(alive)
@@ -117,18 +119,18 @@ class Plain:
 @needs_route
 @needs_numpy
 class RowsTest(unittest.TestCase):
-    def setUp(self):
+    def setUp(self) -> None:
         folder = tempfile.TemporaryDirectory()
         self.addCleanup(folder.cleanup)
         self.folder = folder.name
 
-    def file(self, edges):
+    def file(self, edges: Any) -> Any:
         """A file of edges, which keeps their order."""
         path = pathlib.Path(self.folder, "whole.edgelist")
         path.write_text("".join(f"{u} {v} {w}\n" for u, v, w in edges))
         return path
 
-    def compare(self, plain, row, lost, gone):
+    def compare(self, plain: Any, row: Any, lost: Any, gone: Any) -> None:
         wanted = plain.row(lost, gone)
         for name, value in wanted.items():
             if name == "mean_stretch":
@@ -137,7 +139,7 @@ class RowsTest(unittest.TestCase):
                 self.assertEqual(getattr(row, name), value, (name, row.name))
         self.assertIsNone(row.fault)
 
-    def test_rows_beside_a_plain_loop(self):
+    def test_rows_beside_a_plain_loop(self) -> None:
         compared = 0
         for name, edges in networks().items():
             for kind, numbering in (("shortest", "depth-first"), ("compact", "keep"), ("tree", "depth-first"), ("landmark", "depth-first")):
@@ -150,7 +152,7 @@ class RowsTest(unittest.TestCase):
                         compared += 1
         self.assertGreater(compared, 160)
 
-    def test_nodes_and_several_links(self):
+    def test_nodes_and_several_links(self) -> None:
         edges = networks()["weighed grid"]
         for kind in ("landmark", "compact"):
             plain = Plain(edges, kind, self.folder)
@@ -164,14 +166,14 @@ class RowsTest(unittest.TestCase):
         row = bentzolu.sweep(file, [[nodes[4], edges[0][:2]]], "compact")[0]
         self.compare(plain, row, [edges[0]], [nodes[4]])
 
-    def test_the_whole_network_is_as_stats_has_it(self):
+    def test_the_whole_network_is_as_stats_has_it(self) -> None:
         for kind in ("shortest", "compact", "tree", "landmark"):
             rows, stats = bentzolu.sweep(NSFNET, [], kind), bentzolu.stats(NSFNET, kind)
             self.assertEqual((rows.intact.intervals, rows.intact.bits, len(rows)), (stats.starts, stats.bits.rows, 0))
             self.assertEqual(rows.intact.worst_stretch, float(stats.worst.stretch))
             self.assertEqual(rows.intact.ring, bool(stats.dependencies))
 
-    def test_order_chunks_and_pairs(self):
+    def test_order_chunks_and_pairs(self) -> None:
         whole = bare(bentzolu.sweep(NSFNET, kind="compact"))
         self.assertEqual([row.name for row in whole[:2]], ["Seattle-PaloAlto", "Seattle-SanDiego"])
         with concurrent.futures.ThreadPoolExecutor(2) as pool:
@@ -181,7 +183,7 @@ class RowsTest(unittest.TestCase):
         self.assertEqual([row.failure[0] for row in bentzolu.sweep(NSFNET, some)], some)
         self.assertEqual(len(bentzolu.sweep(TOP / "examples/petersen.adjlist", 2)), 105)
 
-    def test_nodes_of_any_kind(self):
+    def test_nodes_of_any_kind(self) -> None:
         graph = networkx.grid_2d_graph(2, 3)
         rows = bentzolu.sweep(graph, [(0, 0), ((0, 0), (0, 1)), [(1, 1), ((0, 0), (0, 1))]])
         self.assertEqual([row.failure for row in rows], [((0, 0),), (((0, 0), (0, 1)),), (((0, 0), (0, 1)), (1, 1))])
@@ -190,7 +192,7 @@ class RowsTest(unittest.TestCase):
         self.assertEqual(bentzolu.sweep([("a", "b")], "nodes")[0].nodes, 1)
         self.assertEqual(bentzolu.sweep([("a", "b")])[0].disconnected, 2)
 
-    def test_worst_and_tables(self):
+    def test_worst_and_tables(self) -> None:
         rows = bentzolu.sweep([*networks()["lollipop"]])
         self.assertTrue(rows.worst()[0].disconnected)
         self.assertEqual(rows.worst("bits", 1)[0].bits, max(row.bits for row in rows if row.bits is not None))
@@ -200,7 +202,7 @@ class RowsTest(unittest.TestCase):
         with mock.patch.dict(sys.modules, {"pandas": None}), self.assertRaisesRegex(bentzolu.MissingPackageError, "python3-pandas"):
             rows.to_pandas()
 
-    def test_pandas(self):
+    def test_pandas(self) -> None:
         try:
             import pandas
         except ImportError:
@@ -214,22 +216,22 @@ class RowsTest(unittest.TestCase):
 @needs_route
 @needs_numpy
 class FileTest(unittest.TestCase):
-    def setUp(self):
+    def setUp(self) -> None:
         folder = tempfile.TemporaryDirectory()
         self.addCleanup(folder.cleanup)
         self.path = pathlib.Path(folder.name, "rows.jsonl")
         self.whole = bare(bentzolu.sweep(NSFNET))
 
-    def sweep(self, **how):
+    def sweep(self, **how: Any) -> Any:
         return bare(bentzolu.sweep(NSFNET, results=self.path, **how))
 
-    def test_goes_on_behind_a_torn_line(self):
+    def test_goes_on_behind_a_torn_line(self) -> None:
         self.assertEqual(self.sweep(), self.whole)
         lines = self.path.read_bytes().splitlines(True)
         self.assertEqual(len(lines), 23)
         for kept in (0, 1, 2, 9):
             self.path.write_bytes(b"".join(lines[:kept]) + lines[kept][: len(lines[kept]) // 2])
-            with mock.patch.object(sweeping.measuring, "measured", side_effect=measuring.measured) as made:
+            with mock.patch.object(sweeping.measuring, "measured", side_effect=measuring.measured) as made:  # type: ignore[attr-defined]
                 self.assertEqual(self.sweep(), self.whole)
             self.assertEqual(made.call_count, 21 if kept < 2 else 23 - kept)
             self.assertEqual(len(self.path.read_bytes().splitlines()), 23)
@@ -237,7 +239,7 @@ class FileTest(unittest.TestCase):
         self.assertEqual(bare(found), self.whole)
         self.assertEqual((found.kind, found.intact.bits), ("shortest", 464))
 
-    def test_faults_are_made_again(self):
+    def test_faults_are_made_again(self) -> None:
         with mock.patch.object(measuring.ByPlans, "row", autospec=True, side_effect=self.refused):
             found = bentzolu.sweep(NSFNET, results=self.path)
         self.assertEqual([len(found.faults), found.faults[0].failure], [1, (("Seattle", "PaloAlto"),)])
@@ -248,21 +250,21 @@ class FileTest(unittest.TestCase):
     row = measuring.ByPlans.row
 
     @staticmethod
-    def refused(maker, failure):
+    def refused(maker: Any, failure: Any) -> Any:
         if failure == ((0,), ()):
             raise bentzolu.RouteError(3, "out of memory\n")
         return FileTest.row(maker, failure)
 
-    def test_another_sweeps_file(self):
+    def test_another_sweeps_file(self) -> None:
         self.sweep()
         before = self.path.read_bytes()
         for how in ({"kind": "compact"}, {"kind": "landmark", "stretch": 150}, {"numbering": "tour"}, {"root": "Houston"}, {"weight": None}):
             with self.assertRaisesRegex(bentzolu.ResultsError, "another sweep.*give another file"):
-                self.sweep(**how)
+                self.sweep(**how)  # type: ignore[arg-type]
         self.assertEqual(self.path.read_bytes(), before)
         self.assertEqual(len(bentzolu.sweep(NSFNET, 1, results=self.path)), 21)
 
-    def test_no_file_of_a_sweep(self):
+    def test_no_file_of_a_sweep(self) -> None:
         for text in ("a b\nb c\n", "no line", '{"failure":[]}\n', "[1]\n"):
             self.path.write_text(text)
             with self.assertRaisesRegex(bentzolu.ResultsError, "give another file"):
@@ -272,13 +274,13 @@ class FileTest(unittest.TestCase):
             bentzolu.sweep(NSFNET, results=self.path / "below")
 
     @unittest.skipUnless(os.path.exists("/dev/full"), "there is no /dev/full")
-    def test_a_full_disk(self):
+    def test_a_full_disk(self) -> None:
         with mock.patch("bentzolu.results.Results.begin"), self.assertRaisesRegex(bentzolu.ResultsError, "can't be written: No space") as caught:
             bentzolu.sweep(NSFNET, results="/dev/full")
         self.assertIsNotNone(caught.exception.rows.intact.bits)
 
     @unittest.skipIf(sys.platform == "win32", "no locks")
-    def test_two_sweeps_of_one_file(self):
+    def test_two_sweeps_of_one_file(self) -> None:
         self.sweep()
         with open(self.path, "rb") as file:
             there = os.fstat(file.fileno())
@@ -286,21 +288,21 @@ class FileTest(unittest.TestCase):
             self.sweep()
         code = "import fcntl, sys; file = open(sys.argv[1], 'r+b'); fcntl.lockf(file, fcntl.LOCK_EX); print('locked', flush=True); sys.stdin.read()"
         with subprocess.Popen([sys.executable, "-c", code, str(self.path)], stdin=subprocess.PIPE, stdout=subprocess.PIPE) as other:
-            other.stdout.readline()
+            other.stdout.readline()  # type: ignore[union-attr]
             with self.assertRaisesRegex(bentzolu.ResultsError, "another sweep is writing"):
                 self.sweep()
-            other.stdin.close()
+            other.stdin.close()  # type: ignore[union-attr]
         self.assertEqual(self.sweep(), self.whole)
 
 
 class Fails(concurrent.futures.Executor):
     """Makes each task here; the first so many that are submitted fail, as tasks do whose worker died."""
 
-    def __init__(self, times, error=OSError("gone")):
+    def __init__(self, times: Any, error: Any = OSError("gone")) -> None:
         self.times, self.error = times, error
 
-    def submit(self, work, *given):
-        future = concurrent.futures.Future()
+    def submit(self, work: Any, *given: Any) -> Any:  # type: ignore[override]
+        future: Any = concurrent.futures.Future()
         if self.times:
             self.times -= 1
             future.set_exception(self.error)
@@ -312,19 +314,19 @@ class Fails(concurrent.futures.Executor):
 @needs_route
 @needs_numpy
 class EngineTest(unittest.TestCase):
-    def setUp(self):
+    def setUp(self) -> None:
         self.whole = bare(bentzolu.sweep(NSFNET))
         folder = tempfile.TemporaryDirectory()
         self.addCleanup(folder.cleanup)
         self.path = pathlib.Path(folder.name, "rows.jsonl")
 
-    def test_tasks_that_fail_go_again(self):
+    def test_tasks_that_fail_go_again(self) -> None:
         self.assertEqual(bare(bentzolu.sweep(NSFNET, executor=Fails(3), chunk=5)), self.whole)
         with self.assertRaisesRegex(bentzolu.SweepError, "failed 2 times.*OSError: gone") as caught:
             bentzolu.sweep(NSFNET, executor=Fails(100), chunk=20, retries=1)
         self.assertEqual(len(caught.exception.rows), 0)
 
-    def test_an_executor_that_ended(self):
+    def test_an_executor_that_ended(self) -> None:
         broken = concurrent.futures.BrokenExecutor("a worker died")
         with self.assertRaisesRegex(bentzolu.SweepError, "the executor ended.*a worker died.*0 of 21 rows made") as caught:
             bentzolu.sweep(NSFNET, executor=Fails(1, broken), chunk=21)
@@ -341,20 +343,20 @@ class EngineTest(unittest.TestCase):
         made = iter([Fails(1, broken), Fails(1, broken), Fails(0)])
         self.assertEqual(bare(bentzolu.sweep(NSFNET, executor=lambda: next(made), chunk=4)), self.whole)
 
-    def test_a_worker_that_is_killed(self):
-        pools = []
+    def test_a_worker_that_is_killed(self) -> None:
+        pools: list[Any] = []
 
         class Killing(concurrent.futures.ProcessPoolExecutor):
             """Kills one of its own workers at its fifth task, the first time."""
 
-            def submit(self, *given):
+            def submit(self, *given: Any) -> Any:  # type: ignore[override]
                 future = super().submit(*given)
                 self.count = getattr(self, "count", 0) + 1
                 if self.count == 5 and len(pools) == 1:
                     os.kill(next(iter(self._processes)), signal.SIGKILL)
                 return future
 
-        def made():
+        def made() -> Any:
             pools.append(Killing(2))
             return pools[-1]
 
@@ -363,7 +365,7 @@ class EngineTest(unittest.TestCase):
         self.assertEqual(len(pools), 2)
         self.assertEqual(len(bentzolu.read_sweep(self.path)), 21)
 
-    def test_processes(self):
+    def test_processes(self) -> None:
         with concurrent.futures.ProcessPoolExecutor(2) as pool:
             self.assertEqual(bare(bentzolu.sweep(NSFNET, executor=pool)), self.whole)
             self.assertEqual(bare(bentzolu.sweep(NSFNET, executor=pool, chunk=2)), self.whole)
@@ -372,11 +374,11 @@ class EngineTest(unittest.TestCase):
 @needs_route
 @needs_numpy
 class RefusedTest(unittest.TestCase):
-    def refused(self, error, text, *given, **how):
+    def refused(self, error: Any, text: Any, *given: Any, **how: Any) -> None:
         with self.assertRaisesRegex(error, text):
             bentzolu.sweep(*given, **how)
 
-    def test_failures(self):
+    def test_failures(self) -> None:
         error = bentzolu.FailureError
         self.refused(error, r"\('Seattle', 'Houston'\) is not a link.*give the list", NSFNET, [("Seattle", "Houston")])
         self.refused(error, "'Oslo' is not a failure", NSFNET, ["Oslo"])
@@ -384,7 +386,7 @@ class RefusedTest(unittest.TestCase):
         for failures in ("edges", 0, 22, True, 2.5, [[]], [3]):
             self.refused(error, r"fail|neither", NSFNET, failures)
 
-    def test_plans(self):
+    def test_plans(self) -> None:
         error = bentzolu.SweepError
         self.refused(error, "not a kind of plan", NSFNET, kind="fast")
         self.refused(error, "'Oslo' is not a node", NSFNET, root="Oslo")
@@ -400,18 +402,18 @@ class RefusedTest(unittest.TestCase):
         self.refused(bentzolu.ProgramNotFoundError, "can't be run", NSFNET, program="/no/such/route")
         self.refused(bentzolu.BentzoluError, "2 parts", [("a", "b"), ("c", "d")])
 
-    def test_an_order_and_a_root(self):
+    def test_an_order_and_a_root(self) -> None:
         nodes = bentzolu.sweep(NSFNET, [], numbering="keep")
         order = sorted(bentzolu.plan(NSFNET).nodes)
         rows = bentzolu.sweep(NSFNET, kind="compact", numbering=order)
         self.assertEqual((nodes.numbering, rows.numbering[:6], rows.faults), ("keep", "order ", []))
         self.assertEqual(len(bentzolu.sweep(NSFNET, "nodes", "tree", "Houston").faults), 0)
 
-    def test_no_numpy(self):
+    def test_no_numpy(self) -> None:
         with mock.patch.dict(sys.modules, {"numpy": None}):
             self.refused(bentzolu.MissingPackageError, "a sweep needs the package numpy.*python3-numpy", NSFNET)
 
-    def test_a_program_that_goes_away(self):
+    def test_a_program_that_goes_away(self) -> None:
         with tempfile.TemporaryDirectory() as folder:
             program = pathlib.Path(folder, "route")
             program.write_text(f'#!/bin/sh\n[ -e "$0.used" ] && exit 9\ntouch "$0.used"\nexec {ROUTE} "$@"\n')
@@ -424,13 +426,13 @@ class RefusedTest(unittest.TestCase):
 @needs_route
 @needs_numpy
 class WordsTest(unittest.TestCase):
-    def run_words(self, *given):
+    def run_words(self, *given: Any) -> tuple[Any, Any, Any]:
         said, told = io.StringIO(), io.StringIO()
         with contextlib.redirect_stdout(said), contextlib.redirect_stderr(told):
             status = words.main([*map(str, given)])
         return status, said.getvalue(), told.getvalue()
 
-    def test_sweep(self):
+    def test_sweep(self) -> None:
         with tempfile.TemporaryDirectory() as folder:
             path = pathlib.Path(folder, "rows.jsonl")
             status, said, told = self.run_words("sweep", NSFNET, "--jobs", 2, "--worst", 3, "-o", path)
@@ -442,7 +444,7 @@ class WordsTest(unittest.TestCase):
             self.assertEqual((status, said), (1, ""))
             self.assertRegex(told, "^bentzolu sweep: .* has the rows of another sweep")
 
-    def test_what_is_refused(self):
+    def test_what_is_refused(self) -> None:
         for given, text in (
             (("--failures", "edges"), "give links, nodes, or a number"), (("--jobs", 0), "give a number of at least 1"), (("--root", "Oslo"), "not a node"),
             (("--numbering", "/no/such/order"), "or a readable file"), (("--by", "badness"), "no figure"),
@@ -451,12 +453,12 @@ class WordsTest(unittest.TestCase):
             self.assertEqual(status, 1)
             self.assertRegex(told, f"^bentzolu sweep: .*{text}")
 
-    def test_no_dask(self):
+    def test_no_dask(self) -> None:
         with mock.patch.dict(sys.modules, {"distributed": None}):
             status, _, told = self.run_words("sweep", NSFNET, "--dask", "tcp://127.0.0.1:1")
         self.assertEqual((status, "python3-distributed" in told), (1, True))
 
-    def test_other_formats(self):
+    def test_other_formats(self) -> None:
         with tempfile.TemporaryDirectory() as folder:
             path = pathlib.Path(folder, "net.gml")
             networkx.write_gml(networkx.cycle_graph(5), path)
@@ -467,7 +469,7 @@ class WordsTest(unittest.TestCase):
 @needs_route
 @needs_numpy
 class KilledTest(unittest.TestCase):
-    def test_a_run_that_is_killed_and_called_again(self):
+    def test_a_run_that_is_killed_and_called_again(self) -> None:
         """The rows are those of a run that was not killed."""
         network = TOP / "examples/petersen.adjlist"
         with tempfile.TemporaryDirectory() as folder:
@@ -485,12 +487,12 @@ class KilledTest(unittest.TestCase):
             self.assertEqual(bare(bentzolu.sweep(network, 2, results=path)), bare(bentzolu.sweep(network, 2)))
 
 
-def free_environment():
+def free_environment() -> dict[Any, Any]:
     """The environment in which another process finds this package and the program."""
     return {**os.environ, "PYTHONPATH": str(TOP / "python"), "BENTZOLU_ROUTE": ROUTE or "", "PYTHONDONTWRITEBYTECODE": "1"}
 
 
-def has(*modules):
+def has(*modules: Any) -> bool:
     """Whether another process can import these."""
     return subprocess.run([sys.executable, "-c", f"import {', '.join(modules)}"], capture_output=True, check=False).returncode == 0
 

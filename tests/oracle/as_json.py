@@ -4,82 +4,85 @@ Of each subcommand that prints JSON it reads the text, makes values of it, and w
 bytes are to be the same, and json is to read the same values. Of `live`, whose runs differ, it makes a text of the JSON
 again, of which `check` is to say `ok`. Names have quotes and backslashes among their bytes.
 """
+from __future__ import annotations
+
 import json
 import os
+from typing import Any, Iterator
 
 from oracle.rows import graph, run
 
 
-def number(word):
+def number(word: Any) -> Any:
     return int(word) if word.isdigit() else None
 
 
-def fields(names, words):
+def fields(names: Any, words: Any) -> dict[Any, Any]:
     """A value of each word: those of a name that begins with `#` are numbers."""
     return {name.lstrip("#"): number(word) if name[0] == "#" else word for name, word in zip(names.split(), words)}
 
 
-def parts(word, mark, names):
+def parts(word: Any, mark: Any, names: Any) -> dict[Any, Any]:
     """The two numbers of one word."""
     return dict(zip(names, (map(number, word.split(mark)) if mark in word else (None, None))))
 
 
-def pairs(words, value):
+def pairs(words: Any, value: Any) -> list[Any]:
     return [value(*words[i:i + 2]) for i in range(0, len(words), 2)]
 
 
-def plan(lines):
+def plan(lines: Any) -> tuple[Any, str, list[Any]]:
     head = fields("plan #nodes #intervals", lines[0][1:])
     return head, "rows", [{**fields("node #label", row), "intervals": pairs(row[2:], lambda start, to: {"start": int(start), "next": to})}
                           for row in lines[1:]]
 
 
-def order(lines):
+def order(lines: Any) -> tuple[dict[Any, Any], str, list[Any]]:
     return {}, "order", [row[0] for row in lines]
 
 
-def walk(lines):
+def walk(lines: Any) -> tuple[Any, str, list[Any]]:
     head = fields("walk from to #address #weight", lines[0][1:])
     return head, "hops", [fields("node #label #start #end next #weight", row) for row in lines[1:]]
 
 
-def prefixes(lines):
-    def entry(word, to):
+def prefixes(lines: Any) -> tuple[Any, str, list[Any]]:
+    def entry(word: Any, to: Any) -> dict[Any, Any]:
         return {**parts(word, "/", ("value", "length")), "next": None if to == "#" else to}
     head = fields("prefixes #nodes #bits #entries", lines[0][1:])
     return head, "rows", [{**fields("node #label", row), "entries": pairs(row[2:], entry)} for row in lines[1:]]
 
 
-def ranges(lines):
+def ranges(lines: Any) -> tuple[Any, str, list[Any]]:
     head = fields("ranges #nodes #count", lines[0][1:])
     return head, "rows", [{**fields("node #label", row), "ranges": pairs(row[2:], lambda word, to: {**parts(word, "-", ("from", "to")), "next": to})}
                           for row in lines[1:]]
 
 
-def fate_of(words):
-    """What became of a packet, and the words behind that."""
+def fate_of(words: Any) -> tuple[dict[Any, Any], Any]:
+    """What became of a packet, and the words after that."""
     if words[0] in ("down", "full"):
         return {"fate": words[0], "link": words[1:3]}, words[3:]
     return {"fate": words[0]}, words[1:]
 
 
-def packet(row):
+def packet(row: Any) -> dict[Any, Any]:
     fate, hops = fate_of(row[5:])
     return {**fields("#id #epoch from to #weight", row), **fate, "hops": hops}
 
 
-def restamped(row):
+def restamped(row: Any) -> dict[Any, Any]:
     fate, words = fate_of(row[4:])
     segments = []
     for word in words:
         if word[0] == "#":
             segments.append({"epoch": int(word[1:]), "hops": []})
         else:
-            segments[-1]["hops"].append(word)
+            segments[-1]["hops"].append(word)  # type: ignore[attr-defined]
     return {**fields("#id from to #weight", row), **fate, "segments": segments}
 
 
-def trace(lines):
+def trace(lines: Any) -> tuple[dict[Any, Any], str, list[Any]]:
     version = int(lines[0][1])
     return {"trace": version}, "packets", [(packet if version == 1 else restamped)(row) for row in lines[1:]]
 
@@ -87,7 +90,7 @@ def trace(lines):
 FIGURES = {"greatest-row": "node #intervals", "worst": "from to #walk #distance", "compactness": "node neighbour #intervals", "bits": "#rows #tables"}
 
 
-def figure(row):
+def figure(row: Any) -> Any:
     name, words = row[0], row[1:]
     if name == "stats":
         return fields("stats #nodes", words)
@@ -98,7 +101,7 @@ def figure(row):
     return {name: words[0] if words[0] == "acyclic" else int(words[0])}
 
 
-def compared(row):
+def compared(row: Any) -> dict[Any, Any]:
     return {**fields("kind numbering #intervals #greatest-row #bits", row), "mean-stretch": parts(row[5], "/", ("walks", "distances")),
             "worst-stretch": parts(row[6], "/", ("walk", "distance")), "dependencies": row[7]}
 
@@ -120,11 +123,11 @@ def shown(value):
     return json.dumps(value, separators=(",", ":"))
 
 
-def listed(values):
+def listed(values: Any) -> str:
     return "".join(",\n" * (place > 0) + shown(value) for place, value in enumerate(values))
 
 
-def json_of(sub, text):
+def json_of(sub: Any, text: Any) -> Any:
     """The values of a text, and their JSON: a line for each line of it."""
     lines = [line.split(" ") for line in text.splitlines()]
     if sub == "check":
@@ -138,10 +141,10 @@ def json_of(sub, text):
         return {**head, "plans": rows, **bits}, f'{shown(head)[:-1]},"plans":[\n{listed(rows)}\n],\n{shown(bits)[1:-1]}\n}}\n'
     head, name, rows = {"plan": plan, "each": each, "order": order, "walk": walk, "prefixes": prefixes, "ranges": ranges}.get(sub, trace)(lines)
     front = shown(head)[:-1] + ("," if head else "") + shown(name)
-    return {**head, name: rows}, f"{front}:[" + ("\n" if rows else "") + listed(rows) + "\n]}\n"
+    return {**head, name: rows}, f"{front}:[" + ("\n" if rows else "") + listed(rows) + "\n]}\n"  # type: ignore[arg-type]
 
 
-def text_of(value):
+def text_of(value: Any) -> str:
     """The text of a trace again."""
     lines = [f"trace {value['trace']}"]
     for row in value["packets"]:
@@ -152,11 +155,11 @@ def text_of(value):
     return "".join(line + "\n" for line in lines)
 
 
-def name_of(luck, node):
+def name_of(luck: Any, node: Any) -> Any:
     return luck.choice(["n", 'n"', "n\\", "-", "n'/", "~$n", "down"]) + str(node)
 
 
-def script(luck, names, links, live):
+def script(luck: Any, names: Any, links: Any, live: Any) -> str:
     lines = []
     for _ in range(luck.randrange(12)):
         u, v = luck.choice(names), luck.choice(names)
@@ -175,7 +178,7 @@ def script(luck, names, links, live):
     return "".join(line + "\n" for line in [*lines, "drain"])
 
 
-def calls(luck, names, net):
+def calls(luck: Any, names: Any, net: Any) -> Iterator[Any]:
     """Words of each subcommand, without `--json`."""
     kind = luck.choice([[], ["--kind", "tree"], ["--kind", "compact"]])
     ends = [f"--from={luck.choice(names)}", f"--to={luck.choice(names)}"]
@@ -190,15 +193,15 @@ def calls(luck, names, net):
     yield "sim", ["sim", *kind, *restamps, net, "sim.script"]
     yield "live", ["live", *kind, *restamps, net, "live.script"]
     for whole in ([], ["--whole"]):
-        yield "check", ["check", *kind, *whole, net, "sim.script", "sim.trace"]
+        yield "check", ["check", *kind, *whole, net, "sim.script", "sim.trace"]  # type: ignore[misc]
 
 
-def put(folder, name, text):
+def put(folder: Any, name: Any, text: Any) -> None:
     with open(os.path.join(folder, name), "w", encoding="ascii") as file:
         file.write(text)
 
 
-def fault_of(luck, folder):
+def fault_of(luck: Any, folder: Any) -> Any:
     nodes, links = graph(luck)
     names = [name_of(luck, u) for u in range(nodes)]
     links = [(names[u], names[v], weight) for u, v, weight in links]

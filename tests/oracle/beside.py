@@ -98,8 +98,8 @@ def found_beside(lines: List[str], rows: List[Row], capacity: int, packets: int)
     stamps: Dict[int, Fits] = {}
     for place, (number, source, dest, fate, segments) in enumerate(rows):
         line, first, last = place + 2, segments[0][0], segments[-1][0]
-        ends[number] = lambda inject, a=source, b=dest: inject[:2] == (a, b)
-        stamps[number] = lambda inject, a=source, b=dest, e=first: inject[:2] == (a, b) and e <= inject[2]
+        ends[number] = lambda inject, a=source, b=dest: inject[:2] == (a, b)  # type: ignore[misc]
+        stamps[number] = lambda inject, a=source, b=dest, e=first: inject[:2] == (a, b) and e <= inject[2]  # type: ignore[misc]
         if number >= packets or number >= len(injects) or not can_be_numbered(ends, injects):
             return f"finding {line} NeverInjected\n"
         if not can_be_numbered(stamps, injects):
@@ -124,7 +124,7 @@ def bent(luck: random.Random, rows: List[str], nodes: List[str], versioned: bool
         return rows[: (at := luck.randrange(len(rows) + 1))] + [row] + rows[at:]
     at = luck.randrange(len(rows))
     words_ = rows[at].split(" ")
-    _, source, dest, fate, segments = parted_row(rows[at], versioned)
+    _, source, dest, fate, segments = parted_row(rows[at], versioned)  # type: ignore[assignment]
     if what == 1:
         rows[at] = " ".join([str(luck.randrange(len(rows) + 3)), *words_[1:]])
     elif what == 2 and len(rows) > 1:

@@ -1,7 +1,7 @@
 """The labels of plans of kind landmark, beside their definition.
 
-The nodes of each landmark stand in turn, depth first in a tree of shortest ways to it: the parent of a node is, of its
-neighbours on those ways, the one with the least number, and the sons of a node stand in the order of its ports.
+The nodes of each landmark come in turn, depth first in a tree of shortest ways to it: the parent of a node is, of its
+neighbours on those ways, the one with the least number, and the sons of a node are in the order of its ports.
 """
 from __future__ import annotations
 
@@ -15,7 +15,7 @@ Ports = Dict[str, List[Tuple[str, int]]]
 
 
 def most_linked(ports: Ports, root: str, count: int) -> List[str]:
-    """Return the root, and behind it the nodes of most links, of as many the first one of the text."""
+    """Return the root, and after it the nodes of most links, of as many the first one of the text."""
     others = sorted((name for name in ports if name != root), key=lambda name: -len(ports[name]))
     return [root, *others][:count]
 

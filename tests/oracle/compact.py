@@ -3,17 +3,20 @@
 Of a connected graph of up to five nodes, whose links have weights 1 and 2: each row gives each label a port on a shortest
 way, and no smaller set of intervals does.
 """
+from __future__ import annotations
+
 import itertools
+from typing import Any
 
 from oracle.rows import distances, from_links, nearer, run
 
 
-def inside(count, start, end):
+def inside(count: Any, start: Any, end: Any) -> Any:
     """The labels of the cyclic interval from start to end."""
     return set(range(start, end)) if start < end else set(range(start, count)) | set(range(end))
 
 
-def fewest(count, own, tied):
+def fewest(count: Any, own: Any, tied: Any) -> Any:
     """The size of the smallest set of intervals in which each label but the own lies in one, and may take its port."""
     wanted = frozenset(range(count)) - {own}
     useful = set()
@@ -27,7 +30,7 @@ def fewest(count, own, tied):
     return count
 
 
-def fault_of(luck, folder):
+def fault_of(luck: Any, folder: Any) -> Any:
     """What is wrong with a compact plan of a small graph by chance."""
     nodes = luck.randint(2, 5)
     pairs = list(itertools.combinations(range(nodes), 2))

@@ -3,8 +3,11 @@
 Of each kind and order of labels it makes the full table and the canonical rows, follows each walk, and looks for a ring of
 links that wait for each other. The labels are depth-first numbers, or those of the tour where that has fewer starts.
 """
+from __future__ import annotations
+
 import fractions
 import os
+from typing import Any
 
 from oracle.landmark import Bound, fewest_for, most_linked, rows_of, walk_of
 from oracle.rows import distances, from_links, graph, least_row, nearer, run
@@ -13,14 +16,16 @@ SWEEPS = 16
 HEADS = "kind numbering intervals greatest-row bits mean-stretch worst-stretch dependencies"
 
 
-def width(count):
+def width(count: Any) -> Any:
     """The fewest bits that tell so many numbers apart."""
     return (count - 1).bit_length() if count else 0
 
 
-def depth_first(ports, root):
+def depth_first(ports: Any, root: Any) -> tuple[Any, Any]:
     """The nodes in the order of their labels, and each one's father."""
-    order, fathers, todo = [], {}, [(root, None)]
+    order = []
+    fathers: dict[Any, Any] = {}
+    todo = [(root, None)]
     while todo:
         u, father = todo.pop()
         if u not in fathers:
@@ -30,11 +35,11 @@ def depth_first(ports, root):
     return order, fathers
 
 
-def shortest_table(ports, far):
+def shortest_table(ports: Any, far: Any) -> dict[Any, Any]:
     return {u: {d: nearer(ports, far, u, d)[0] for d in ports if d != u} for u in ports}
 
 
-def tree_table(ports, fathers):
+def tree_table(ports: Any, fathers: Any) -> Any:
     """The next node of the tree's walk: the son that the destination is below, else the father."""
     table = {u: {d: fathers[u] for d in ports if d != u} for u in ports}
     for d in ports:
@@ -45,12 +50,12 @@ def tree_table(ports, fathers):
     return table
 
 
-def compact_table(ports, far, order):
+def compact_table(ports: Any, far: Any, order: Any) -> dict[Any, Any]:
     """Each node's first round with the fewest longest runs, and of each run the least port."""
     return {u: compact_ports(ports, far, order, u) for u in ports}
 
 
-def compact_ports(ports, far, order, u):
+def compact_ports(ports: Any, far: Any, order: Any, u: Any) -> Any:
     count, own = len(order), order.index(u)
     may = {a: nearer(ports, far, u, order[a]) for a in range(count) if a != own}
     best = None
@@ -58,21 +63,21 @@ def compact_ports(ports, far, order, u):
         runs, place = [], 0
         while place < count:
             long = {v: longest_run(may, count, own + first + place, own, v) for v, _ in ports[u]}
-            port = max(long, key=long.get)
+            port = max(long, key=long.get)  # type: ignore[arg-type]
             runs.append((place, long[port], port))
             place += long[port]
         if best is None or len(runs) < len(best[1]):
             best = (first, runs)
     chosen = {}
     for place, long, port in best[1] if best else []:
-        for i in range(place, min(place + long, count)):
-            label = (own + best[0] + i) % count
+        for i in range(place, min(place + long, count)):  # type: ignore[operator]
+            label = (own + best[0] + i) % count  # type: ignore[index]
             if label != own:
                 chosen[order[label]] = port
     return chosen
 
 
-def longest_run(may, count, begin, own, port):
+def longest_run(may: Any, count: Any, begin: Any, own: Any, port: Any) -> Any:
     """How many labels from one on, once round, may go by a port; a node's own goes with any."""
     for i in range(count):
         label = (begin + i) % count
@@ -81,7 +86,7 @@ def longest_run(may, count, begin, own, port):
     return count
 
 
-def tour_order(ports, root):
+def tour_order(ports: Any, root: Any) -> Any:
     """The order by nearest from the root, shortened by sweeps of Croes."""
     nodes = list(ports)
     table = shortest_table(ports, {u: distances(ports, u) for u in ports})
@@ -98,9 +103,9 @@ def tour_order(ports, root):
     return order
 
 
-def has_ring(ports, table):
+def has_ring(ports: Any, table: Any) -> bool:
     """Whether links wait for each other in a ring: those that wait for none are taken away until none is left."""
-    waits = {(u, v): set() for u in ports for v, _ in ports[u]}
+    waits: Any = {(u, v): set() for u in ports for v, _ in ports[u]}
     for u in ports:
         for d, v in table[u].items():
             if v != d:
@@ -112,7 +117,7 @@ def has_ring(ports, table):
         waits = {link: others - free for link, others in waits.items() if link not in free}
 
 
-def landmark_table(ports, far, order, stretch):
+def landmark_table(ports: Any, far: Any, order: Any, stretch: Any) -> dict[Any, Any]:
     """The neighbour of each node for each other one, by landmarks: as many as by default, and the bound of this stretch."""
     bound = Bound(ports, far, most_linked(ports, order[0], fewest_for(len(order))), stretch)
     rows = rows_of(ports, order, bound)
@@ -120,29 +125,29 @@ def landmark_table(ports, far, order, stretch):
 
 
 class Plan:
-    def __init__(self, ports, far, kind, order, fathers):
+    def __init__(self, ports: Any, far: Any, kind: Any, order: Any, fathers: Any) -> None:
         self.ports, self.far, self.order = ports, far, order
-        self.table = landmark_table(ports, far, order, int(kind[9:])) if kind.startswith("landmark") else {"shortest": lambda: shortest_table(ports, far), "compact": lambda: compact_table(ports, far, order),
+        self.table = landmark_table(ports, far, order, int(kind[9:])) if kind.startswith("landmark") else {"shortest": lambda: shortest_table(ports, far), "compact": lambda: compact_table(ports, far, order),  # type: ignore[no-untyped-call]
                       "tree": lambda: tree_table(ports, fathers)}[kind]()
         self.rows = {u: least_row(order, a, {b: self.table[u][d] for b, d in enumerate(order) if d != u}) for a, u in enumerate(order)}
 
-    def starts(self):
+    def starts(self) -> Any:
         return sum(map(len, self.rows.values()))
 
-    def weight(self, u, d):
+    def weight(self, u: Any, d: Any) -> Any:
         weight = 0
         while u != d:
             v = self.table[u][d]
             weight, u = weight + dict(self.ports[u])[v], v
         return weight
 
-    def columns(self):
+    def columns(self) -> str:
         pairs = [(u, d) for u in self.ports for d in self.ports if u != d]
         walks = [self.weight(u, d) for u, d in pairs]
         direct = [self.far[u][d] for u, d in pairs]
         stretches = ["-", "-"]
         if pairs:
-            # the first of the pairs with the greatest stretch, as its walk and its distance are told
+            # the first of the pairs with the greatest stretch, as its walk and its distance are printed
             worst = max(range(len(pairs)), key=lambda i: fractions.Fraction(walks[i], direct[i]))
             stretches = [f"{sum(walks)}/{sum(direct)}", f"{walks[worst]}/{direct[worst]}"]
         label = width(len(self.ports))
@@ -151,7 +156,7 @@ class Plan:
         return " ".join([str(self.starts()), str(max(map(len, self.rows.values()))), str(bits), *stretches, ring])
 
 
-def comparison(ports, root, blocks):
+def comparison(ports: Any, root: Any, blocks: Any) -> str:
     far = {u: distances(ports, u) for u in ports}
     order, fathers = depth_first(ports, root)
     lines = [f"compare {len(ports)} {sum(map(len, ports.values())) // 2}", HEADS]
@@ -167,11 +172,11 @@ def comparison(ports, root, blocks):
     return "".join(line + "\n" for line in [*lines, f"tables - - - {tables} - - -"])
 
 
-def edges_text(links):
+def edges_text(links: Any) -> str:
     return "".join(f"n{u} n{v} {weight}\n" for u, v, weight in links)
 
 
-def fault_of(luck, folder):
+def fault_of(luck: Any, folder: Any) -> Any:
     _, links = graph(luck)
     ports, text = (from_links(links), edges_text(links)) if links else ({"n0": []}, "n0\n")
     name = "net.edgelist" if links else "net.adjlist"

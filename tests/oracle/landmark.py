@@ -32,7 +32,7 @@ def drawn(luck: random.Random) -> List[Tuple[int, int, int]]:
 
 
 def most_linked(ports: Ports, root: str, count: int) -> List[str]:
-    """Return the root, and behind it the nodes of most links, of as many the first one of the text."""
+    """Return the root, and after it the nodes of most links, of as many the first one of the text."""
     names = list(ports)
     others = sorted((name for name in names if name != root), key=lambda name: (-len(ports[name]), names.index(name)))
     return [root, *others][:count]
@@ -46,7 +46,7 @@ def fewest_for(nodes: int) -> int:
 class Bound:
     """The owner and the radius of each node, and the bound on the weight of the way from each node to each."""
 
-    def __init__(self, ports: Ports, far: Far, landmarks: List[str], stretch: int):
+    def __init__(self, ports: Ports, far: Far, landmarks: List[str], stretch: int) -> None:
         names = list(ports)
         self.owner: Dict[str, str] = {}
         self.radius: Dict[str, int] = {}
@@ -147,7 +147,7 @@ def fault_of_run(luck: random.Random, folder: str, words: List[str], names: List
     lines = []
     for _ in range(luck.randint(1, 4)):
         lines += [f"inject {luck.choice(names)} {luck.choice(names)}" for _ in range(luck.randint(1, 6))]
-        lines += luck.choice([["drain"], []]) + [f"install {luck.choice(['landmark', 'landmark', 'tree'])} {luck.choice(names)}"]
+        lines += luck.choice([["drain"], []]) + [f"install {luck.choice(['landmark', 'landmark', 'tree'])} {luck.choice(names)}"]  # type: ignore[operator]
     with open(os.path.join(folder, "landmark.script"), "w", encoding="ascii") as file:
         file.write("\n".join([*lines, "drain", ""]))
     for sub in ("sim", "live"):

@@ -4,20 +4,23 @@ For kind shortest each row is what the least ports give; for kind compact each l
 row could have fewer starts. Over a tour no kind has more starts than over depth-first numbers. The figures of `stats` are
 those of the distances and of the walks.
 """
+from __future__ import annotations
+
 import heapq
 import os
 import subprocess
+from typing import Any
 
 from support.places import built_program
 
 
 
-def run(words, folder):
+def run(words: Any, folder: Any) -> tuple[Any, Any, Any]:
     done = subprocess.run([built_program(), *words], capture_output=True, text=True, cwd=folder)
     return done.stdout, done.stderr, done.returncode
 
 
-def graph(luck):
+def graph(luck: Any) -> tuple[Any, list[Any]]:
     """A connected graph: each node's neighbours in the order of its links, with their weights."""
     nodes = luck.randrange(1, 25)
     links = {(luck.randrange(v), v) for v in range(1, nodes)}
@@ -25,22 +28,22 @@ def graph(luck):
         u, v = luck.randrange(nodes), luck.randrange(nodes)
         if u != v and (v, u) not in links:
             links.add((u, v))
-    links = list(links)
+    links = list(links)  # type: ignore[assignment]
     luck.shuffle(links)
     most = luck.choice([1, 2, 9, 65_535])
     return nodes, [(u, v, luck.randrange(1, most + 1)) for u, v in links]
 
 
-def from_links(links):
+def from_links(links: Any) -> Any:
     """The names in the order of the text, and each one's neighbours and weights, by its ports."""
-    ports = {}
+    ports: dict[Any, Any] = {}
     for u, v, weight in links:
         ports.setdefault(f"n{u}", []).append((f"n{v}", weight))
         ports.setdefault(f"n{v}", []).append((f"n{u}", weight))
     return ports
 
 
-def distances(ports, source):
+def distances(ports: Any, source: Any) -> Any:
     far, todo = {source: 0}, [(0, source)]
     while todo:
         weight, u = heapq.heappop(todo)
@@ -52,12 +55,12 @@ def distances(ports, source):
     return far
 
 
-def nearer(ports, far, u, d):
+def nearer(ports: Any, far: Any, u: Any, d: Any) -> list[Any]:
     """The neighbours of u on shortest ways to d, by their ports."""
     return [v for v, step in ports[u] if step + far[v][d] == far[u][d]]
 
 
-def least_row(order, own, choice):
+def least_row(order: Any, own: Any, choice: Any) -> list[Any]:
     """The starts of the row in which each label but the own has its neighbour."""
     count = len(order)
     labels = [(own + 1 + i) % count for i in range(count - 1)]
@@ -66,11 +69,12 @@ def least_row(order, own, choice):
     return sorted((label, choice[label]) for i, label in enumerate(labels) if choice[label] != choice[labels[i - 1]])
 
 
-def fewest(labels, tied):
+def fewest(labels: Any, tied: Any) -> Any:
     """The fewest runs of the labels, in cyclic order, such that the labels of each run share a neighbour."""
     best = len(labels)
     for first in range(len(labels)):
-        runs, share = 0, set()
+        runs = 0
+        share: set[Any] = set()
         for i in range(len(labels)):
             here = tied[labels[(first + i) % len(labels)]]
             share &= here
@@ -80,7 +84,7 @@ def fewest(labels, tied):
     return best
 
 
-def fault_of_rows(kind, ports, far, order, lines):
+def fault_of_rows(kind: Any, ports: Any, far: Any, order: Any, lines: Any) -> Any:
     if lines[0].split()[:3] != ["plan", kind, str(len(order))]:
         return f"its first line is {lines[0]}"
     label = {name: i for i, name in enumerate(order)}
@@ -107,7 +111,7 @@ def fault_of_rows(kind, ports, far, order, lines):
     return None
 
 
-def fault_of(luck, folder):
+def fault_of(luck: Any, folder: Any) -> Any:
     nodes, links = graph(luck)
     if not links:
         return None

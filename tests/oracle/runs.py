@@ -1,23 +1,26 @@
 """What `sim` and `live` print of scripts in which each packet is drained before anything else happens.
 
-Then a packet ends as the network stands: it goes by the plan of the epoch that it was stamped with, up to its destination
+Then a packet ends as the network is: it goes by the plan of the epoch that it was stamped with, up to its destination
 or to a link that is down, and no step where that epoch is retired. `check` is to say `ok` of the trace, also with `--whole`.
 Plans of kind landmark go round as the words of the run say, by the landmarks of the links that are up then.
 """
+from __future__ import annotations
+
 from oracle.blocks import order_of
 from oracle.landmark import Bound, fewest_for, most_linked, rows_of
 from oracle.rows import distances, run
 from oracle.tables import drawn, plan_of, read_topology
+from typing import Any
 
 
-def put(folder, name, text):
+def put(folder: Any, name: Any, text: Any) -> Any:
     """Write a file there, and return its name."""
     with open(f"{folder}/{name}", "w", encoding="ascii") as file:
         file.write(text)
     return name
 
 
-def is_connected(nodes, links):
+def is_connected(nodes: Any, links: Any) -> bool:
     """Whether links lead from each node to each."""
     seen, todo = {nodes[0]}, [nodes[0]]
     while todo:
@@ -29,7 +32,7 @@ def is_connected(nodes, links):
     return len(seen) == len(nodes)
 
 
-def landmark_plan(ports, root, count, stretch):
+def landmark_plan(ports: Any, root: Any, count: Any, stretch: Any) -> tuple[str, list[Any], dict[Any, Any], dict[Any, Any], Any]:
     """The same as `plan_of` for kind landmark, of each node's neighbours and weights by its ports."""
     landmarks, far = most_linked(ports, root, count), {u: distances(ports, u) for u in ports}
     order = order_of(ports, landmarks)
@@ -42,26 +45,28 @@ def landmark_plan(ports, root, count, stretch):
 class Network:
     """A network and its board, as the script left them."""
 
-    def __init__(self, text, kind, root, count=1, stretch=300):
+    def __init__(self, text: Any, kind: Any, root: Any, count: Any = 1, stretch: Any = 300) -> None:
         self.text, self.graph, self.count, self.stretch = text, read_topology(text, "edgelist"), count, stretch
         self.nodes = list(self.graph)
         self.links = sorted({frozenset((u, v)) for u in self.nodes for v in self.graph[u]}, key=sorted)
-        self.down, self.floor, self.learnt = set(), 1, 1
+        self.down: set[Any] = set()
+        self.floor = 1
+        self.learnt = 1
         self.plans = [self.planned(kind, root or self.nodes[0])]
 
-    def planned(self, kind, root):
+    def planned(self, kind: Any, root: Any) -> Any:
         """The plan of a kind over the links that are up; nodes and ports stay in their order."""
         if kind == "landmark":
             ports = {u: [it for it in self.graph[u].items() if frozenset((u, it[0])) not in self.down] for u in self.nodes}
             return landmark_plan(ports, root, self.count, self.stretch)
         return plan_of(self.without(), "edgelist", kind, root)
 
-    def without(self):
+    def without(self) -> Any:
         """The text of the topology over the links that are up."""
         lines = [line for line in self.text.splitlines() if frozenset(line.split()[:2]) not in self.down]
         return "\n".join(lines) + "\n"
 
-    def play(self, line):
+    def play(self, line: Any) -> Any:
         """Why a change is refused, or None."""
         word, *rest = line.split()
         if word in ("down", "up"):
@@ -85,7 +90,7 @@ class Network:
             self.learnt = max(self.learnt, int(rest[0]))
         return None
 
-    def row(self, number, source, dest):
+    def row(self, number: Any, source: Any, dest: Any) -> str:
         """The row of a packet that is drained at once."""
         _, _, labels, _, towards = self.plans[self.learnt - 1]
         hops, weight, fate = [source], 0, "retired" if self.learnt < self.floor else "delivered"
@@ -99,7 +104,7 @@ class Network:
         return f"{number} {self.learnt} {source} {dest} {weight} {fate} {' '.join(hops)}\n"
 
 
-def fault_of(luck, folder):
+def fault_of(luck: Any, folder: Any) -> Any:
     """What is wrong with a run of a script by chance, and with the check of its trace."""
     _, text = drawn(luck, luck.randint(2, 12))
     kinds = ["tree", "shortest", "landmark", "landmark"]
@@ -111,7 +116,7 @@ def fault_of(luck, folder):
     is_live = luck.random() < 0.5  # then each install is learnt at once, as a live run does by itself
     script, live, rows, refused = [], [], [], []
 
-    def step(line):
+    def step(line: Any) -> Any:
         why = net.play(line)
         script.append(line)
         live.append(f"# {line}" if line.startswith("learn") else line)
@@ -143,7 +148,7 @@ def fault_of(luck, folder):
             return f"{text}%%\n{chr(10).join(lines)}\n{sub}: {given} in place of {wanted}"
         trace = put(folder, "runs.trace", wanted[0])
         for more in [], ["--whole"]:
-            given = run(["check", *more, *words, file, trace], folder)
+            given = run(["check", *more, *words, file, trace], folder)  # type: ignore[misc]
             if given != (f"ok {len(rows)}\n", "", 0):
                 return f"{text}%%\n{chr(10).join(lines)}\ncheck {more} of {wanted[0]}: {given}"
     return None

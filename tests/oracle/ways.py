@@ -11,7 +11,7 @@ import random
 import sys
 import tempfile
 from bisect import bisect_right
-from typing import Dict, List, Optional, Tuple
+from typing import Any, Dict, List, Optional, Tuple
 
 if __name__ == "__main__":
     sys.path.insert(0, os.path.dirname(os.path.dirname(os.path.abspath(__file__))))
@@ -38,7 +38,7 @@ def drawn(luck: random.Random, nodes: int) -> List[Tuple[int, int, int]]:
 class Bound:
     """The landmark of each node and how far it is, by searches from the landmarks."""
 
-    def __init__(self, ports, landmarks: List[str], stretch: int):
+    def __init__(self, ports: Any, landmarks: List[str], stretch: int) -> None:
         self.far, self.stretch = {landmark: distances(ports, landmark) for landmark in landmarks}, stretch
         number = {name: place for place, name in enumerate(ports)}
         self.owner = {d: min(landmarks, key=lambda each: (self.far[each][d], number[each])) for d in ports}
@@ -46,10 +46,10 @@ class Bound:
     def between(self, away: int, u: str, d: str) -> int:
         """Return the bound on the way from u to d, at a distance."""
         radius = self.far[self.owner[d]][d]
-        return self.far[self.owner[d]][u] + radius if 100 * (away + 2 * radius) <= self.stretch * away else away
+        return self.far[self.owner[d]][u] + radius if 100 * (away + 2 * radius) <= self.stretch * away else away  # type: ignore[no-any-return]
 
 
-def walk_fault(plan: Plan, ports, bound: Bound, towards: Dict[str, int], u: str, d: str) -> Optional[str]:
+def walk_fault(plan: Plan, ports: Any, bound: Bound, towards: Dict[str, int], u: str, d: str) -> Optional[str]:
     """Return what is wrong with the walk from u to d, or None; `towards` has the distances to d."""
     label, at, weight, whole = plan[d][0], u, 0, bound.between(towards[u], u, d)
     for _ in plan:

@@ -86,7 +86,7 @@ class ByTheBook:
 
 
 def starts_in(output: bytes) -> int:
-    """The number of starts that the first line of a plan, or the third of figures, tells."""
+    """The number of starts that the first line of a plan, or the third of figures, gives."""
     lines = output[:1_000].split(b"\n")
     return int(lines[0].split()[3] if lines[0].startswith(b"plan") else lines[2].split()[1])
 

@@ -95,7 +95,7 @@ def filled(text: str, size: int) -> bytes:
 
 
 def band(nodes: int) -> str:
-    """A chain in which each node is linked to the third one behind it, too: a tour numbers it for fewer intervals."""
+    """A chain in which each node is linked to the third one after it, too: a tour numbers it for fewer intervals."""
     return "".join(f"n{u} n{u + 1} n{u + 3}\n" for u in range(nodes - 3))
 
 

@@ -1,7 +1,7 @@
 """Keeps what the program said in the tests, and finds the sentences of its sources that no test made it say.
 
 The runner names a file in the environment, to which each process of the tests appends the lines that it saw. When all tests
-of the program have run, each part of a literal of the crate of sentences has to stand in one of these lines, or in the
+of the program have run, each part of a literal of the crate of sentences has to be in one of these lines, or in the
 text of a test, or in UNREACHED with its reason.
 """
 from __future__ import annotations

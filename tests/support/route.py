@@ -73,7 +73,7 @@ class Terminal:
         self.reader.start()
 
     def read(self) -> None:
-        with contextlib.suppress(OSError):  # so it tells that its end is closed
+        with contextlib.suppress(OSError):  # so it is told that its end is closed
             while True:
                 self.written += os.read(self.master, 65_536)
 
@@ -86,7 +86,7 @@ class Terminal:
 
 
 def on_terminal(words: Words, data: bytes = b"", streams: Sequence[str] = ("stderr",), **more: Any) -> Got:
-    """The same as `run` with these streams on one terminal; what two of them write stands together in place of the first."""
+    """The same as `run` with these streams on one terminal; what two of them write is together in place of the first."""
     terminal = Terminal()
     if "stdin" in streams:
         os.write(terminal.master, data)

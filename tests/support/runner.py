@@ -27,7 +27,7 @@ sys.dont_write_bytecode = True
 from support import checks, places, printed  # noqa: E402
 
 PARTS = {
-    "names": ["names", "wants"],
+    "names": ["names", "wants", "cases"],
     "style": ["style"],
     "completions": ["completions"],
     "dataplane": ["dataplane"],

@@ -12,7 +12,7 @@ use Rattle.ir_graph.specs.declared.error.GraphError.{GraphError}
 use Rattle.ir_graph.specs.declared.error.GraphError.TheVariants as errors
 use Rattle.ir_adjlist.specs.Steps.{Fails, fault_of, edge_run, row_run, targets_run}
 
--- the fault, or else what comes behind the call
+-- the fault, or else what follows the call
 abbrev pub go_on : Option GraphError → Result Adjacency Fault → Result Adjacency Fault
 go_on (Some e) r = Err (fault_of e)
 go_on None r = r

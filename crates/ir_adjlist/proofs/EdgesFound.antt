@@ -42,7 +42,7 @@ no_weight g x y h = by (lookup (bytes_eq x) g) h
     by (Some es) h = cc
     by None h = refl
 
--- ---- where the ends of an edge from z stand
+-- ---- where the ends of an edge from z are
 
 joins_first : (x y z : Name) → bytes_eq x z ≡ true → (k : Name) (w : ℕ) → joins x y (z, k, w) ≡ bytes_eq y k
 joins_first x y z ex k w = ap (λ b. b && bytes_eq y k || bytes_eq x k && bytes_eq y z) ex ∙ by (bytes_eq y k) (bytes_eq x k) (bytes_eq y z) refl refl refl

@@ -72,7 +72,7 @@ word_named (b ∷ bs) h =
     let c = and_parts (list_all (λ b. is_plain b && not (b == 35) && not (is_blank b)) (b ∷ bs)) true a.0 in
     and_from _ _ (and_from _ _ (le-leb 1 (suc (length bs)) (omega arith)) a.1) (list_all-imp _ is_name_byte name_byte (b ∷ bs) c.0)
 
--- a word as it stands in a line without a bad byte
+-- a word as it is in a line without a bad byte
 abbrev is_spelled : Name → Bool
 is_spelled w = list_all (λ b. is_plain b && not (b == 35) && not (is_blank b)) w && not (is_empty w)
 

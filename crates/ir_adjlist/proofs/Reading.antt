@@ -46,7 +46,7 @@ module _ (run : Adjacency → List ℕ → Result Adjacency Fault) (fault : List
           ap (λ n. text_run run n (graph_in (before ++ l ∷ [])) ls) (sym (length-append before (l ∷ []))) ∙ later
           ∙ ap (λ m. or_graph (first_fault_by fault (before ++ l ∷ []) ls) (graph_in m)) (append_assoc before (l ∷ []) ls)
 
--- ---- what an error tells
+-- ---- what an error says
 
 told : (line : ℕ) (kind : Fault) (run : Result Adjacency Fault) (first : Option (ℕ × Fault)) → Fails kind run → (run ≡ Err kind → first ≡ Some (line, kind)) → Tells (told_at line kind) first
 told line NoMemory run first h e = refl
@@ -57,7 +57,7 @@ told line BadWeight run first h e = e h
 told line TooManyNodes run first h e = e h
 told line TooManyEdges run first h e = e h
 
--- a line that fails behind what was read is the first fault
+-- a line that fails after what was read is the first fault
 pub told_by : (run : Adjacency → List ℕ → Result Adjacency Fault) (first : Option (ℕ × Fault)) (whole : Adjacency) (rest after : List (List ℕ)) (current : List ℕ) (n line : ℕ) (g : Adjacency) (kind : Fault) → or_graph first whole ≡ text_run run n g rest
     → rest ≡ current ∷ after → n + 1 ≡ line → Fails kind (run g current) → Tells (told_at line kind) first
 told_by run first whole rest after current n line g kind means split e h =

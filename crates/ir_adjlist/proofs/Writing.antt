@@ -73,7 +73,7 @@ no_place_among_first ks x n e = by (among (take n ks) x) refl
     by true t = absurd (true≢false (sym (among-front ks x n t) ∙ nowhere))
     by false t = t
 
--- ---- one element more behind a text
+-- ---- one element more after a text
 
 pub spaced-one : (g : Adjacency) (count : ℕ) (ks : List Name) (n : ℕ) → spaced_words (unwritten g count (take (n + 1) ks)) ≡ spaced_words (unwritten g count (take n ks)) ++ spaced_words (unwritten g count (option_to_list (slice_get ks n)))
 spaced-one g count ks n =
@@ -87,7 +87,7 @@ node_edges-one g count x es n =
     ∙ ap (flat_map (λ (e : Name × ℕ). edge_text (x, e.0, e.1))) (filter-append (λ (e : Name × ℕ). not (among (take count (names g)) e.0)) (take n es) (option_to_list (slice_get es n)))
     ∙ flat_map-append (λ (e : Name × ℕ). edge_text (x, e.0, e.1)) (unwritten_links g count (take n es)) (unwritten_links g count (option_to_list (slice_get es n)))
 
--- what was put, and what is put behind it
+-- what was put, and what is put after it
 pub put_more : (start done new before after : List ℕ) → before ≡ start ++ done → after ≡ before ++ new → after ≡ start ++ (done ++ new)
 put_more start done new before after b a = a ∙ ap (λ t. t ++ new) b ∙ append_assoc start done new
 
@@ -95,7 +95,7 @@ put_more start done new before after b a = a ∙ ap (λ t. t ++ new) b ∙ appen
 pub put_through : (before new after rest later whole : List ℕ) → after ≡ before ++ new → rest ≡ new ++ later → before ++ rest ≡ whole → after ++ later ≡ whole
 put_through before new after rest later whole a r w = ap (λ t. t ++ later) a ∙ append_assoc before new later ∙ ap (λ t. before ++ t) (sym r) ∙ w
 
--- ---- a node more behind a text
+-- ---- a node more after a text
 
 adjlist_behind-same : (rs : Adjacency) (before after : List Name) → ((y : Name) → among before y ≡ among after y) → adjlist_behind before rs ≡ adjlist_behind after rs
 adjlist_behind-same [] before after h = refl
@@ -173,7 +173,7 @@ no_link_found es n e = by (slice_get es n) refl
     by None h = h
     by (Some l) h = absurd (none-some _ (e ∙ slice_get-map (λ (l : Name × ℕ). l.0) es n ∙ ap (option_map (λ (l : Name × ℕ). l.0)) h))
 
--- ---- behind the last node nothing is left to write
+-- ---- after the last node nothing is left to write
 
 pub rows_written : (g : Adjacency) (i : ℕ) (text whole : List ℕ) → length g ≤ i → text ++ rows_text g i ≡ whole → text ≡ whole
 rows_written g i text whole h e = sym (ap (λ rs. text ++ adjlist_behind (take i (names g)) rs) (drop_all i g h) ∙ append-nil text) ∙ e

@@ -30,7 +30,7 @@ line_run g line =
     else if not (list_all (λ w. nat_le (length w) MAX_NAME_BYTES) (words line)) then Err BadName
     else row_run g (words line)
 
--- a run goes on behind its graph; a fault is told with the number of its line
+-- a run goes on after its graph; a fault is reported with the number of its line
 abbrev pub on_line : ℕ → Result Adjacency Fault → (Adjacency → Result Adjacency (ℕ × Fault)) → Result Adjacency (ℕ × Fault)
 on_line n (Ok g) next = next g
 on_line n (Err e) next = Err (n, e)

@@ -1,4 +1,4 @@
--- What an error tells of a text.
+-- What an error says of a text.
 use Rattle.std.specs.Prelude.{◌≡◌, ℕ, Option, Some}
 use Rattle.ir_model.specs.declared.Fault.{Fault}
 use Rattle.ir_model.specs.declared.Fault.TheVariants.{BadByte, BadName, BadRow, BadWeight, TooManyNodes, TooManyEdges, NoMemory}

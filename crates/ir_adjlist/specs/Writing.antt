@@ -1,10 +1,10 @@
--- What the writers put behind a text, step by step.
+-- What the writers put after a text, step by step.
 use Rattle.std.specs.Prelude.{ℕ, not, List, ◌∷◌, filter, flat_map, take}
 use Rattle.std.specs.Map.{keys_of}
 use Rattle.ir_model.specs.Graph.{Name, Neighbors, Adjacency, among, names, neighbors}
 use Rattle.ir_adjlist.specs.Written.{row_text, edge_text}
 
--- each word behind a space
+-- each word after a space
 abbrev pub spaced_words : List Name → List ℕ
 spaced_words words = flat_map (λ word. 32 ∷ word) words
 

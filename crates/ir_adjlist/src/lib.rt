@@ -1,6 +1,6 @@
 //! Two formats of NetworkX, read and written: adjacency lists and weighted edge lists.
 //!
-//! A line ends with a line feed or with the text. What stands behind a `#` is a comment and holds any
+//! A line ends with a line feed or with the text. What follows a `#` is a comment and holds any
 //! bytes; outside a comment each byte is a blank (space, tab, carriage return, vertical tab, form
 //! feed) or one of `!` to `~`. A name is a word of 1 to 64 bytes. A line with no word is skipped.
 #![tactic(auto)]
@@ -66,7 +66,7 @@ pub fn parse_adjlist(alloc: Global, text: &[u8]) -> Result<Graph, TextError>
 }
 
 /// The graph that a weighted edge list names. A line has two ends and a weight: decimal digits of value 1 to 65,535,
-/// behind which a point and zeros may stand. A line of fewer than two words is skipped. Nodes and neighbours stand by
+/// after which a point and zeros may come. A line of fewer than two words is skipped. Nodes and neighbours stand by
 /// first appearance, and an edge has its last weight. The faults of a line, in order: `BadByte`; `BadName` of an end;
 /// `BadRow` where the words are not three; `BadWeight`; `TooManyNodes`; `TooManyEdges`. Takes O(b) on average, for a
 /// text of b bytes.

@@ -36,7 +36,7 @@ fn most_neighbors(graph: &Graph, name: &str) -> usize
     graph.degree(name).unwrap_or(0)
 }
 
-/// Puts a byte behind the text.
+/// Puts a byte after the text.
 fn put_byte(text: &mut Vec<u8>, byte: u8) -> Result<(), AllocError>
     ensures { OnOk result (text.new.items ≡ text.old.items ++ byte ∷ []) }
 {
@@ -46,7 +46,7 @@ fn put_byte(text: &mut Vec<u8>, byte: u8) -> Result<(), AllocError>
     }
 }
 
-/// Puts a space and a word behind the text.
+/// Puts a space and a word after the text.
 fn put_word(text: &mut Vec<u8>, word: &[u8]) -> Result<(), AllocError>
     ensures { OnOk result (text.new.items ≡ text.old.items ++ 32 ∷ word.now) }
 {
@@ -54,7 +54,7 @@ fn put_word(text: &mut Vec<u8>, word: &[u8]) -> Result<(), AllocError>
     text.extend_from_slice(word)
 }
 
-/// Puts the neighbour at a place behind the text, unless it is one of the first nodes.
+/// Puts the neighbour at a place after the text, unless it is one of the first nodes.
 fn put_target_at(
     text: &mut Vec<u8>,
     graph: &Graph,
@@ -75,7 +75,7 @@ fn put_target_at(
     put_word(text, target.as_bytes())
 }
 
-/// Puts the neighbours of a node behind the text, but those that are one of the first nodes.
+/// Puts the neighbours of a node after the text, but those that are one of the first nodes.
 fn put_targets(
     text: &mut Vec<u8>,
     graph: &Graph,
@@ -91,7 +91,7 @@ fn put_targets(
     Ok(())
 }
 
-/// Puts the line of the node at a place behind the text.
+/// Puts the line of the node at a place after the text.
 fn put_row_at(text: &mut Vec<u8>, graph: &Graph, place: usize) -> Result<(), AllocError>
     ensures { OnOk result (text.new.items ≡ text.old.items
         ++ flat_map (node_row graph.now place) (option_to_list (slice_get (names graph.now) place))) }
@@ -104,7 +104,7 @@ fn put_row_at(text: &mut Vec<u8>, graph: &Graph, place: usize) -> Result<(), All
     put_byte(text, b'\n')
 }
 
-/// Puts the line of an edge behind the text.
+/// Puts the line of an edge after the text.
 fn put_edge(
     alloc: Global,
     text: &mut Vec<u8>,
@@ -118,7 +118,7 @@ fn put_edge(
     put_words(text, u, v, digits.as_bytes())
 }
 
-/// Puts a line of three words behind the text.
+/// Puts a line of three words after the text.
 fn put_words(text: &mut Vec<u8>, u: &str, v: &str, last: &[u8]) -> Result<(), AllocError>
     ensures { OnOk result (text.new.items ≡ text.old.items ++ row_text u.now (v.now ∷ last.now ∷ [])) }
 {
@@ -128,7 +128,7 @@ fn put_words(text: &mut Vec<u8>, u: &str, v: &str, last: &[u8]) -> Result<(), Al
     put_byte(text, b'\n')
 }
 
-/// Puts the line of the edge to the neighbour at a place behind the text, unless that is one of the first nodes.
+/// Puts the line of the edge to the neighbour at a place after the text, unless that is one of the first nodes.
 fn put_edge_at(
     alloc: Global,
     text: &mut Vec<u8>,
@@ -153,7 +153,7 @@ fn put_edge_at(
     }
 }
 
-/// Puts the lines of a node's edges behind the text, but those to one of the first nodes.
+/// Puts the lines of a node's edges after the text, but those to one of the first nodes.
 fn put_edges(
     alloc: Global,
     text: &mut Vec<u8>,
@@ -171,7 +171,7 @@ fn put_edges(
     Ok(())
 }
 
-/// Puts the lines of the edges of the node at a place behind the text.
+/// Puts the lines of the edges of the node at a place after the text.
 fn put_edges_at(
     alloc: Global,
     text: &mut Vec<u8>,

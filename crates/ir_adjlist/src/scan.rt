@@ -13,7 +13,7 @@ pub fn is_blank_byte(byte: u8) -> bool
     byte == b' ' || (byte >= 9 && byte <= 13 && byte != b'\n')
 }
 
-/// Whether each byte may stand outside a comment. Takes O(b), for b bytes.
+/// Whether each byte may be outside a comment. Takes O(b), for b bytes.
 pub fn all_plain(bytes: &[u8]) -> bool
     ensures { result ≡ list_all is_plain bytes.now }
 {
@@ -41,7 +41,7 @@ fn find_word(bytes: &[u8]) -> Option<usize>
     bytes.iter().position(|byte| !is_blank_byte(*byte))
 }
 
-/// How many bytes stand before the first such byte. Takes O(b), for b of them.
+/// How many bytes are before the first such byte. Takes O(b), for b of them.
 pub fn before(bytes: &[u8], end: u8) -> usize
     ensures len { result ≡ prefix_len (λ b. not (b == end)) bytes.now }
     ensures within { result ≤ length bytes.now }
@@ -49,7 +49,7 @@ pub fn before(bytes: &[u8], end: u8) -> usize
     find_byte(bytes, end).unwrap_or(bytes.len())
 }
 
-/// How many blanks stand at the front.
+/// How many blanks are at the front.
 fn blanks(bytes: &[u8]) -> usize
     ensures len { result ≡ prefix_len is_blank bytes.now }
     ensures within { result ≤ length bytes.now }
@@ -57,7 +57,7 @@ fn blanks(bytes: &[u8]) -> usize
     find_word(bytes).unwrap_or(bytes.len())
 }
 
-/// How many bytes stand before the first blank.
+/// How many bytes are before the first blank.
 fn word_len(bytes: &[u8]) -> usize
     ensures len { result ≡ prefix_len (λ b. not (is_blank b)) bytes.now }
     ensures within { result ≤ length bytes.now }
@@ -78,7 +78,7 @@ pub fn next_line(text: &[u8]) -> (&[u8], &[u8])
     (&text[..end], &text[end + 1..])
 }
 
-/// What stands before the first `#`. Takes O(b), for b bytes of it.
+/// What is before the first `#`. Takes O(b), for b bytes of it.
 pub fn without_comment(line: &[u8]) -> &[u8]
     ensures { result.now ≡ content line.now }
 {

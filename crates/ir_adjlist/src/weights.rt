@@ -19,7 +19,7 @@ fn is_zero_fraction(bytes: &[u8]) -> bool
     bytes.is_empty() || (bytes[0] == b'.' && bytes.len() > 1 && all_zeros(&bytes[1..]))
 }
 
-/// Whether the word is one or more decimal digits, behind which a point and one or more zeros may stand.
+/// Whether the word is one or more decimal digits, after which a point and one or more zeros may come.
 fn is_decimal(word: &[u8]) -> bool
     ensures { result ≡ is_decimal word.now }
 {

@@ -1,4 +1,4 @@
--- What a run comes to behind its output, by what that was given.
+-- What a run comes to after its output, by what that was given.
 use Rattle.std.proofs.Common.{◌≡◌, ◌≢◌, ◌∙◌, ℕ, Bool, true, false, List, [], Option, Some, None, Result, Ok, Err, refl, sym, ap, subst, true≢false}
 use Rattle.std.specs.declared.alloc.AllocError.{AllocError}
 use Rattle.ir_cli.specs.declared.ending.Ending.{Ending}
@@ -18,7 +18,7 @@ other : (ending is : Ending) → is_found is ≡ false → ending ≡ is → end
 other ending is differs e = λ found. true≢false (ap is_found (sym found ∙ e) ∙ differs)
 
 module _ (whole outcome : RunOutcome) (lines : List ℕ) (told : List ℕ → Type 0) where
-  -- what is told is what the outcome tells
+  -- what is reported is what the outcome says
   pub told_behind : (put : Result Bool AllocError) → told_text whole.told ≡ lines → EndsPut put whole lines outcome told → told (told_text outcome.told)
   told_behind (Ok true) is ends = subst (λ (o : RunOutcome). told (told_text o.told)) (sym ends.0) (subst told (sym is) ends.1)
   told_behind (Ok false) is ends = ends.3
@@ -34,7 +34,7 @@ module _ (whole outcome : RunOutcome) (lines : List ℕ) (told : List ℕ → Ty
   found_behind (Err error) form text out unused notice is says sent ends =
       subst (λ (f : Option Notice). ShowsFound form f outcome.ending out) (sym ends.1) (other outcome.ending endings.NoMemory refl ends.0)
 
-  -- an answer to all of the inputs was written and told
+  -- an answer to all of the inputs was written and reported
   pub ran_behind : (put : Result Bool AllocError) (answer : Answer) (text : List ℕ) (refusals : List ℕ) (out : Bool → List ℕ → Type 0) (unused : Type 0) → answer ≡ Ran text refusals
       → whole.ending ≡ endings.Done → refusals ≡ lines → IsTextPut text put out unused → EndsPut put whole lines outcome told → RepliesAs outcome.ending answer out unused told
   ran_behind (Ok true) answer text refusals out unused is done same sent ends =

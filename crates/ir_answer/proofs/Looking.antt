@@ -214,12 +214,12 @@ shown_plan g kind labels show plan built (Found text) shows = absurd shows
 shown_plan g kind labels show plan built (Refused line) shows = absurd shows
 shown_plan g kind labels show plan built NoThread shows = absurd shows
 
--- what tells the walk of a plan that is not built is a text of that plan
+-- what gives the walk of a plan that is not built is a text of that plan
 pub walk_says : (g : Adjacency) (kind : Kind) (labels : Labelling) (a b : ℕ) (text : List ℕ) → IsWalkOfPlan (names g) (topology_of_graph g) kind labels a b text
     → IsTextOfPlan g kind labels (Says (Between a b) (names g)) text
 walk_says g kind labels a b text is = record { plan = is.plan; built = is.built; said = is.walks }
 
--- what tells the refusal of a plan is an answer
+-- what reports the refusal of a plan is an answer
 pub told_refusal : (g : Adjacency) (kind : Kind) (labels : Labelling) (says : Plan → List ℕ → Type 0) (error : PlanError) (told : OpenError) → told ≡ open_error_of error
     → RefusesPlan (topology_of_graph g) labels error → (stop : AnswerStop) → StopsAs stop (λ line. (told ≢ errors.NoMemory) × (line ≡ opening_line told))
     → StopsAs stop (λ line. AnswersText g kind labels says (Refused line))

@@ -37,14 +37,14 @@ fault_is v g rest BadWeight h = absurd h
 fault_is v g rest Repeated h = absurd h
 fault_is v g rest NoMemory h = absurd h
 
--- one fault stands at a rest
+-- one fault is at a rest
 one_fault : (v : Version) (g : Adjacency) (rest : List ℕ) (kind found : FindingKind) → IsBad v g rest kind → IsBad v g rest found → kind ≡ found
 one_fault v g rest kind found (inl a) (inl b) = a.0 ∙ sym b.0
 one_fault v g rest kind found (inl a) (inr b) = absurd (a.1 b.1.0 b.1.2 b.1.1 b.1.3)
 one_fault v g rest kind found (inr a) (inl b) = absurd (b.1 a.1.0 a.1.2 a.1.1 a.1.3)
 one_fault v g rest kind found (inr a) (inr b) = a.0 ∙ sym b.0
 
--- none stands at the line of a row that can be read
+-- none is at the line of a row that can be read
 no_fault : (v : Version) (g : Adjacency) (text : RowText) (row : TraceRow) (more rest : List ℕ) (kind : FindingKind) → IsRowText v text → IsReadAs g text row → rest ≡ row_line v text ++ more → IsBad v g rest kind → ⊥
 no_fault v g text row more rest kind is read e (inl a) = a.1 text is more e
 no_fault v g text row more rest kind is read e (inr a) =
@@ -73,12 +73,12 @@ fronts v g (t ∷ front) (u ∷ other) (r ∷ good) (s ∷ fine) rest behind kin
 
 -- ---- the first fault of a text
 
--- behind the line of the version
+-- after the line of the version
 shown : (g : Adjacency) (text : List ℕ) (line : ℕ) (kind : FindingKind) (fault : IsFirstFault g text line kind) → text ≡ header fault.version ++ (flat_map (row_line fault.version) fault.before.0 ++ fault.rest)
 shown g text line kind fault =
     fault.whole ∙ ap (λ (t : List ℕ). t ++ fault.rest) fault.before.1 ∙ append_assoc (header fault.version) (flat_map (row_line fault.version) fault.before.0) fault.rest
 
--- what is faulty in a text behind a header of this version
+-- what is faulty in a text after a header of this version
 record IsFaultBehind (v : Version) (g : Adjacency) (text : List ℕ) (line : ℕ) (kind : FindingKind) : Type 0 where
   texts : List RowText
   good : List TraceRow
@@ -112,7 +112,7 @@ first_same g text line at kind found a b =
     let same = one_version b.version a.version (flat_map (row_line b.version) theirs.texts ++ theirs.rest) (flat_map (row_line a.version) mine.texts ++ mine.rest) (sym theirs.whole ∙ mine.whole) in
     one_behind a.version g text line at kind found mine (subst (λ (v : Version). IsFaultBehind v g text at found) same theirs)
 
--- what is told of a text is that it is no trace, or its first fault
+-- what is reported of a text is that it is no trace, or its first fault
 abbrev IsTold : Adjacency → List ℕ → ℕ → FindingKind → Type 0
 IsTold g text line kind = ((kind ≡ NotTrace) × (line ≡ 1) × IsNoTrace text) ⊎ IsFirstFault g text line kind
 

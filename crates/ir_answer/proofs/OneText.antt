@@ -5,7 +5,7 @@ use Rattle.ir_model.specs.Text.{lines, onto_first}
 use Rattle.ir_cli.specs.Cut.{EndsWithBytes}
 use Rattle.ir_answer.specs.Asked.{AreThree}
 
--- ---- an end of a text is told by its lines
+-- ---- an end of a text is given by its lines
 
 -- the bytes of lines, each with a line feed
 abbrev size : List (List ℕ) → ℕ

@@ -45,7 +45,7 @@ abbrev pub shaped : Option Shape → List ℕ → List ℕ
 shaped None text = text
 shaped (Some shape) text = json_text shape (lines text)
 
--- what is printed in that form; what is told stays
+-- what is printed in that form; what is reported stays
 abbrev pub in_shape : Option Shape → Answer → Answer
 in_shape shape (Ran text refusals) = Ran (shaped shape text) refusals
 in_shape shape (Found line) = Found (shaped shape line)
@@ -65,7 +65,8 @@ abbrev pub IsTextPut : List ℕ → Result Bool AllocError → (out : Bool → L
 IsTextPut text (Ok sent) out unused = out sent text
 IsTextPut text (Err error) out unused = unused
 
--- What a run comes to behind its output: as told, with these lines of faults, where all of it was taken; else to a fault.
+-- What a run comes to after its output: as reported, with these lines of faults, where all of it was taken; else to a
+-- fault.
 abbrev pub EndsPut : Result Bool AllocError → RunOutcome → List ℕ → RunOutcome → (told : List ℕ → Type 0) → Type 0
 EndsPut (Ok true) whole lines outcome told = (outcome ≡ whole) × told lines
 EndsPut (Ok false) whole lines outcome told =

@@ -61,8 +61,8 @@ AnswersBothEnds g None to answers = answers None
 AnswersBothEnds g (Some from) None answers = answers None
 AnswersBothEnds g (Some from) (Some to) answers = AnswersEnds g (Some from) (Some to) (λ a b. answers (Some (a, b)))
 
--- The answer to a graph where a drawing is asked for: the refusal of a node or an end that is none, or else an answer to the
--- circle of the node, where one is named, or to the network.
+-- The answer to a graph where a drawing is asked for: the refusal of a node or an end that is none. Otherwise it is an
+-- answer to the circle of the node, where one is named, or to the network.
 abbrev pub AnswersDrawn : Option Name → Bool → Option Name → Option Name → Adjacency → (Show → Answer → Type 0) → Answer → Type 0
 AnswersDrawn None is_svg from to g answers = AnswersBothEnds g from to (λ ends. answers (Drawing ends))
 AnswersDrawn (Some node) is_svg from to g answers = AnswersRoot g (Some node) (λ u. answers (Circle u is_svg))

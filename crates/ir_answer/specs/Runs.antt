@@ -35,7 +35,7 @@ pub record RunIo : Type 1 where
   pub stops : List Source → Source → NoInput → Type 0
   pub written : Written
 
--- the writers of a run, each as it was before and as it is behind it
+-- the writers of a run, each as it was before and as it is after it
 abbrev pub written_of : {W F : Type 0} → writer.Ghosts W → writer.Ghosts F → W → W → F → F → Written
 written_of w f output written faults told =
     record {
@@ -44,7 +44,7 @@ written_of w f output written faults told =
       told = Tells f.contents f.wrote f.settled faults told;
     }
 
--- the readers and the writers of a run, each as it was before and as it is behind it
+-- the readers and the writers of a run, each as it was before and as it is after it
 abbrev pub io_of : {R W F : Type 0} → reader.Ghosts R → writer.Ghosts W → writer.Ghosts F → List R → List R → W → W → F → F → RunIo
 io_of r w f inputs read output written faults told =
     record {

@@ -31,8 +31,8 @@ module _ {A : Type 0} (says : Detour → List Name → Topology → List ℕ →
   abbrev pub script_said : Words → List (List ℕ) → Adjacency → Result (Listing A) (ℕ × ScriptFault)
   script_said words script g = listing_from (says (detour_of words.detour (length g))) (names g) (topology_of_graph g) 1 script
 
-  -- The answer to a graph and the lines of a script, by what a line says: the script's first fault, or else the refusal of a
-  -- root that is no node, or else an answer to the script and the root.
+  -- The answer to a graph and the lines of a script, by what a line says. It is the script's first fault, or else the
+  -- refusal of a root that is no node, or else an answer to the script and the root.
   abbrev pub AnswersScripted : Words → List (List ℕ) → (Adjacency → Listing A → ℕ → Answer → Type 0) → Adjacency → Answer → Type 0
   AnswersScripted words script answers g answer =
       MatchResult (script_said words script g)

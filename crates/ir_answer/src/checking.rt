@@ -162,7 +162,7 @@ fn check_asked(
 }
 
 /// The answer of `check` to the texts of a topology, of a script and of a trace: `ok N` for a sound trace of N rows,
-/// or the first finding; where the words ask for it, the rows are judged beside the script too, behind that. Plans are
+/// or the first finding; where the words ask for it, the rows are judged beside the script too, after that. Plans are
 /// made by a crew.
 pub fn check(
     crew: &impl Crew,

@@ -15,8 +15,9 @@ pub fn installs_have_the_same_plans()
         → HaveSamePlans opening.topology one other }
 {}
 
-/// A check has one right answer, want of memory aside: for a graph, a script, a trace and a root; for a graph, the
-/// lines of a script and a trace; and for the texts of the inputs. It is `ok N` of one N, one finding, or one refusal.
+/// A check has one right answer, apart from want of memory. So it is for a graph, a script, a trace and a root; for a
+/// graph, the lines of a script and a trace; and for the texts of the inputs. It is `ok N` of one N, one finding, or
+/// one refusal.
 pub fn check_has_one_answer()
     ensures replayed { (g : Adjacency) (words : Words) (script : Listing Step) (trace : List ℕ) (root : ℕ)
         → HaveOneAnswer (AnswersCheck g words script trace root) }

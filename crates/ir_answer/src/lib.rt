@@ -3,7 +3,7 @@
 //!
 //! `run_plan`, `run_sim` and `run_check` read their inputs, answer them and write the answer, over any readers and
 //! writers. `follow_by` does so for every subcommand, with the rows of plans made by a crew. What is printed is text,
-//! or its JSON (`ir_json`) where the words ask for that. `ir_shell`, which knows `live`, stands on what they are made
+//! or its JSON (`ir_json`) where the words ask for that. `ir_shell`, which knows `live`, is built on what they are made
 //! of.
 #![tactic(auto)]
 

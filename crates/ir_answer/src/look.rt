@@ -357,7 +357,7 @@ fn ends_alone(show: Show, kind: Kind, nodes: usize, labels: &Labels) -> Option<(
     Some((from, to))
 }
 
-/// The answer that tells the walk of a plan between two nodes, or what refuses that plan, which is not built.
+/// The answer that gives the walk of a plan between two nodes, or what refuses that plan, which is not built.
 fn show_walk(
     alloc: Global,
     graph: &Graph,
@@ -442,7 +442,7 @@ fn plan_of(
     }
 }
 
-/// The answer that shows the rows of a plan, or tells what refuses it.
+/// The answer that shows the rows of a plan, or says what refuses it.
 fn show_rows(
     crew: &impl Crew,
     alloc: Global,
@@ -489,7 +489,7 @@ fn show_text(
     }
 }
 
-/// The answer that shows a plan, or tells what refuses it. The text of its rows is written as it is made, and each
+/// The answer that shows a plan, or says what refuses it. The text of its rows is written as it is made, and each
 /// other text is made whole.
 fn show_plan(
     crew: &impl Crew,
@@ -517,8 +517,8 @@ fn kind_over(words: &Words, graph: &Graph) -> Kind
 }
 
 /// The answer to the text of a topology, and to that of an order where the words have one: what is shown of the plan.
-/// Refused are, in this order, the topology's first fault, the order's or a root that is no node, an end, a node to show
-/// or a second plan's root that is none, and what refuses the plan. The plan's rows are made by a crew.
+/// Faults are refused in this order: the topology's; the order's, or a root that is no node; an end, a node to show or
+/// a second plan's root that is none; the plan's. The plan's rows are made by a crew.
 pub fn look_at(
     crew: &impl Crew,
     alloc: Global,

@@ -133,9 +133,9 @@ fn follow_as<C: Crew, R: Reader, W: Writer, F: Writer>(
     }
 }
 
-/// Reads a topology, and an order where the words have one, and writes the plan that the words ask for: a line for
-/// each node with its label and its row, or with its name alone in the order of the labels; as JSON where the words
-/// ask for that.
+/// Reads a topology, and an order where the words have one, and writes the plan that the words ask for. It has a line
+/// for each node with its label and its row, or with its name alone in the order of the labels. It is JSON where the
+/// words ask for that.
 ///
 /// Conditions: an order is of no plan of kind Tree; there is a reader for the topology, or for all of standard input
 /// where `words.is_one_input()`, and one for the order if there is one. The answer is the exit status: 0 done; 1 an
@@ -158,8 +158,8 @@ pub fn run_plan<R: Reader, W: Writer, F: Writer>(
 }
 
 /// Reads a topology and a script, plays the script's steps in a world over the topology, and writes the trace of its
-/// packets: of version 1 where no packet may be restamped, else of version 2. Each step that is refused is a line
-/// `refused LINE NAME` of the faults. The trace is JSON where the words ask for that.
+/// packets. The trace has version 1 where no packet may be restamped, else version 2. Each step that is refused is a
+/// line `refused LINE NAME` of the faults. The trace is JSON where the words ask for that.
 ///
 /// Condition: there is one reader where `words.is_one_input()`, whose text the first line that is exactly `%%` cuts
 /// into the two, and else one of the topology and one of the script. The answer is the exit status: 0 done; 1 an input
@@ -204,17 +204,17 @@ pub fn run_check<R: Reader, W: Writer, F: Writer>(
 }
 
 /// Does what the words ask for over readers and writers, and answers what it came to, as values: how the run ended,
-/// what its lines of faults tell, and what a check found. A crew takes part in it; what is written is the same for
+/// what its lines of faults say, and what a check found. A crew takes part in it; what is written is the same for
 /// any.
 ///
 /// `plan`, `sim` and `check` are `run_plan`, `run_sim` and `run_check`. The other subcommands of a plan read what
 /// `plan` does, and `compare` a topology alone; each writes the one text that it shows, or its JSON where the words
-/// ask for that. `live` wants threads of nodes: its inputs are read, and it is told as `no thread`.
+/// ask for that. `live` wants threads of nodes: its inputs are read, and it is reported as `no thread`.
 ///
 /// Conditions: an order is of no plan of kind Tree; the inputs are a reader for each text, or for
 /// `words.is_one_input()` one of all texts, which the first lines that are exactly `%%` cut. `status_of` has the exit
-/// status of an ending: 0 where all is done; 1 for an input that is refused, a finding, or a reader or writer that
-/// failed; 3 for want of memory, also where a step wanted it, and for `live`.
+/// status of an ending. It is 0 where all is done; 1 for a refused input, a finding, or a reader or writer that failed.
+/// It is 3 for want of memory, also in a step, and for `live`.
 pub fn follow_by<C: Crew, R: Reader, W: Writer, F: Writer>(
     crew: &C,
     alloc: Global,

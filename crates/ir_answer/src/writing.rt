@@ -15,7 +15,7 @@ use ir_plan::Crew;
 use ir_streams::Writer;
 use std::alloc::{AllocError, Global};
 
-/// Tells that memory was refused.
+/// Reports that memory was refused.
 fn out_of_memory<F: Writer>(faults: &mut F) -> RunOutcome
     ensures ending { result.ending ≡ endings.NoMemory }
     ensures line { Tells F.contents F.wrote F.settled faults.old faults.new out_of_memory_line }
@@ -39,7 +39,7 @@ fn whole(ending: Ending, steps: Vec<(usize, Refused)>, found: Option<Notice>) ->
     }
 }
 
-/// Ends a run behind its output: as told, with these lines of faults, where all of it was taken.
+/// Ends a run after its output: as reported, with these lines of faults, where all of it was taken.
 fn ended<F: Writer>(
     put: Result<bool, AllocError>,
     lines: &[u8],
@@ -111,7 +111,7 @@ fn write_reply<C: Crew, W: Writer, F: Writer>(
     }
 }
 
-/// Writes what the inputs come to, in a form, or the line that tells why that is nothing. A crew makes the lines of a
+/// Writes what the inputs come to, in a form, or the line that says why that is nothing. A crew makes the lines of a
 /// plan's text.
 pub fn write_given<C: Crew, W: Writer, F: Writer>(
     crew: &C,

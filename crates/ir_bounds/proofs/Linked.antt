@@ -71,7 +71,7 @@ pub best_most : (degree : ℕ → ℕ) (marks : List Bool) (n v : ℕ) (best : O
 best_most degree marks n v None is le = tt
 best_most degree marks n v (Some x) is le = λ w lt free_w. is.most w (omega (arith, lt, le)) free_w
 
--- what a test tells of the best one
+-- what a test says of the best one
 pub some_yes : (best : Option ℕ) (r : Bool) (Q : ℕ → Type 0) → IfSome best (λ x. (r ≡ true) ↔ Q x) → r ≡ true → IfSome best Q
 some_yes None r Q tells e = tt
 some_yes (Some x) r Q tells e = tells.0 e
@@ -80,7 +80,7 @@ pub some_no : (best : Option ℕ) (r : Bool) (Q : ℕ → Type 0) → IfSome bes
 some_no None r Q tells e = tt
 some_no (Some x) r Q tells e = λ q. (let bad : false ≡ true = sym e ∙ tells.1 q in cc bad)
 
--- the first i landmarks, and the marks that tell them
+-- the first i landmarks, and the marks that give them
 pub record AreLinkedBelow (net : Topology) (root i : ℕ) (landmarks : List ℕ) (marks : List Bool) : Type 0 where
   pub some : 0 < i
   pub every : length landmarks ≡ i

@@ -1,4 +1,4 @@
--- The marks of a port, as one label after the other comes to them, and what they tell.
+-- The marks of a port, as one label after the other comes to them, and what they say.
 use Rattle.std.proofs.Common.{◌≡◌, ◌↔◌, ℕ, ◌+◌, ◌<◌, ◌≤◌, Bool, true, false, List, [], ◌∷◌, ◌++◌, length, Some, Option, refl, ap, sym, ◌∙◌, subst, inl, inr, ◌⊎◌, arith}
 use Rattle.std.specs.Prelude.{Contains, slice_index, slice_index_or}
 use Rattle.std.proofs.lemmas.Bool.{cases_eq, cases_lt}
@@ -68,7 +68,7 @@ module _ (net : Topology) (rows : List (List ℕ)) (order labels : List ℕ) (na
   may : ℕ → ℕ → Type 0
   may = MayTakePort net (IsBoundIn rows) order (slice_index labels u)
 
-  -- the marks of a port tell which labels may take it
+  -- the marks of a port say which labels may take it
   pub marks_may : (p : ℕ) (hop : Hop) (row : List Bool) → port_at net u p ≡ Some hop
       → AreMarksWithin (node_count net) order hop.weight (slice_index_or rows u []) (slice_index_or rows hop.node []) row
       → (d : ℕ) → MayTakePort net (IsBoundIn rows) order (slice_index labels u) d p ↔ Marks row d

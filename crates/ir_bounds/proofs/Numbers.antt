@@ -24,7 +24,7 @@ distance_small net ok u d n is =
     let light = way_light net ok u d way.0 way.1 in
     omega (arith, short, few, light, way.2)
 
--- one number more behind those of which P holds
+-- one number more after those of which P holds
 pub number_pushed : (P : ℕ → ℕ → Type 0) (k : ℕ) (xs ys : List ℕ) (x : ℕ) → length xs ≡ k → ((i : ℕ) → i < k → P i (slice_index xs i)) → ys ≡ xs ++ (x ∷ []) → P k x
     → (length ys ≡ k + 1) × ((i : ℕ) → i < k + 1 → P i (slice_index ys i))
 number_pushed P k xs ys x len all is own = (ap (λ (zs : List ℕ). length zs) is ∙ length_push xs x ∙ ap (λ (n : ℕ). n + 1) len, at)
@@ -37,7 +37,7 @@ number_pushed P k xs ys x len all is own = (ap (λ (zs : List ℕ). length zs) i
           | inr ne ↦ subst (P i) (sym (get_or_append_left xs (x ∷ []) 0 i (omega (arith, len)))) (all i (omega arith))
         ])
 
--- one vector more behind those of which P holds
+-- one vector more after those of which P holds
 pub list_pushed : (P : ℕ → List ℕ → Type 0) (k : ℕ) (made more : List (Vec ℕ)) (v : Vec ℕ) → length (held_lists made) ≡ k → ((i : ℕ) → i < k → P i (slice_index_or (held_lists made) i [])) → more ≡ made ++ (v ∷ []) → P k v.items
     → (length (held_lists more) ≡ k + 1) × ((i : ℕ) → i < k + 1 → P i (slice_index_or (held_lists more) i []))
 list_pushed P k made more v len all is own = (ap length lists ∙ length_push (held_lists made) v.items ∙ ap (λ (n : ℕ). n + 1) len, at)

@@ -55,7 +55,7 @@ module _ (n own : ℕ) (may : ℕ → ℕ → Type 0) where
         best_more n own may p a (slice_index old_counts a) (slice_index old_ports a) k.run (slice_index counts a) (slice_index ports a) row (before.best a l off) k.longest tells k.better;
   }
 
-  -- behind the last port
+  -- after the last port
   pub runs_all : (m : ℕ) (counts ports : List ℕ) → ((d q : ℕ) → m ≤ q → may d q → ⊥) → AreBestRuns n own may m counts ports → AreLongest n own may counts ports
   runs_all m counts ports last runs = λ a l off. best_all n own may m a (slice_index counts a) (slice_index ports a) off last (runs.best a l off)
 

@@ -15,8 +15,8 @@ pub record AreMarksWithin (n : ℕ) (order : List ℕ) (weight : ℕ) (own their
   pub every : length row ≡ n
   pub marks : (d : ℕ) → d < n → (slice_index_or row d false ≡ true) ↔ (weight + slice_index theirs (slice_index order d) ≤ slice_index own (slice_index order d))
 
--- The row of the node with the label a is the canonical one of the ports that the rule chooses of those that lead within
--- the bound; its intervals give each label but a such a port, and no fewer intervals do.
+-- The row of the node with the label a is the canonical one of the ports that the rule chooses of those that lead
+-- within the bound. Its intervals give each label but a such a port, and no fewer intervals do.
 pub record IsRowWithin (net : Topology) (bound : ℕ → ℕ → ℕ → Type 0) (order : List ℕ) (a : ℕ) (row : List Start) : Type 0 where
   pub ports : List (Option ℕ)
   pub choices : AreChoices (node_count net) a (MayLead net bound order a)

@@ -1,5 +1,5 @@
 //! Rows of nodes that keep to a bound with the fewest intervals, and the bound by landmarks (Cowen 2001, Thorup and
-//! Zwick 2001): rows of few intervals, whose ways are at most three times as long as the shortest.
+//! Zwick 2001). These rows have few intervals, and their ways are at most three times as long as the shortest.
 #![tactic(auto)]
 
 mod bounds;

@@ -35,7 +35,7 @@ pub fn block_order(
     Ok(order.nodes)
 }
 
-/// The landmarks of a plan: its root, and behind it the nodes of most links, of as many the least number first; at
+/// The landmarks of a plan: its root, and after it the nodes of most links, of as many the least number first; at
 /// most so many. It is refused for memory alone. Takes O(k n), for k landmarks and n nodes.
 pub fn most_linked(
     alloc: Global,

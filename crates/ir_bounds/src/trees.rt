@@ -111,7 +111,7 @@ pub fn follower_lists(
     Ok(lists)
 }
 
-// The nodes that may follow a node: its sons, and behind those of the first landmark the other landmarks.
+// The nodes that may follow a node: its sons, and after those of the first landmark the other landmarks.
 fn follower_list(
     alloc: Global,
     topology: &Topology,

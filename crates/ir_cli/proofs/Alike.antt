@@ -20,7 +20,7 @@ use Rattle.ir_cli.specs.Words.{AreTaken, FitsItsKind, alike, has_its_files, has_
 use Rattle.ir_cli.specs.Meaning.{AreNodes, HasItsNodes, HasItsSecond, HasWhatIsAsked, IsNumbering, IsSecond, IsKindWord, Means, first_kind, nodes_word, second_kind, numbering_word, second_word}
 use Rattle.ir_cli.specs.CommandLine.{sub_word}
 
--- ---- what a word tells
+-- ---- what a word says
 
 abbrev texts_by : Text → ℕ
 texts_by word = if bytes_eq word (codes "check") then 3 else if bytes_eq word (codes "sim") || bytes_eq word (codes "live") then 2 else 1

@@ -23,7 +23,7 @@ one_line (b ∷ c ∷ cs) (suc n) e h =
     ap (λ t. cond t ([] ∷ lines (take (suc n) (c ∷ cs))) (onto_first b (lines (take (suc n) (c ∷ cs))))) (not-false-true (b == 10) on.0)
     ∙ ap (onto_first b) (one_line (c ∷ cs) n on.1 (omega arith))
 
--- behind a line feed a new line begins
+-- after a line feed a new line begins
 pub line_before : (bs : List ℕ) (n : ℕ) → prefix_len is_text bs ≡ n → n < length bs → (tail : List ℕ) → lines (take (suc n) bs ++ tail) ≡ take n bs ∷ lines tail
 line_before [] n e h tail = absurd (omega arith)
 line_before (b ∷ bs) zero e h tail = ap (λ t. cond t ([] ∷ lines tail) (onto_first b (lines tail))) (not-true-false (b == 10) (stops is_text b bs e))

@@ -6,7 +6,7 @@ use Rattle.ir_cli.specs.Cut.{EndsWithBytes}
 pub end_none : (input : List ℕ) → EndsWithBytes input []
 end_none input = (input, append-nil input)
 
--- what stands behind n bytes more
+-- what follows n bytes more
 pub end_behind : (input : List ℕ) (at n : ℕ) → EndsWithBytes input (drop n (drop at input))
 end_behind input at n = (take at input ++ take n (drop at input), append_assoc (take at input) (take n (drop at input)) (drop n (drop at input)) ∙ ap (λ (xs : List ℕ). take at input ++ xs) (take-append-drop n (drop at input)) ∙ take-append-drop at input)
 

@@ -1,4 +1,4 @@
--- What an error of the words tells, from what the parser's error tells.
+-- What an error of the words says, from what the parser's error says.
 use Rattle.std.proofs.Common.{◌≡◌, ◌≢◌, ◌⊎◌, ◌∙◌, Bool, true, false, List, Result, Ok, Err, IfErr, refl, sym, ap, subst, inl, inr, ⊎_elim, true≢false}
 use Rattle.clap.specs.Words.{IsAmong, Kinds, Text}
 use Rattle.clap.specs.declared.error.kind.ErrorKind.{ErrorKind}

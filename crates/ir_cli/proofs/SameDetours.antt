@@ -1,4 +1,4 @@
--- How far ways may go round is told by its two numbers.
+-- How far ways may go round is given by its two numbers.
 use Rattle.std.proofs.Common.{◌≡◌, ◌<◌, ◌≤◌}
 use Rattle.std.proofs.Math.Bridge.{le_prop}
 use mathlib.Core.HLevel.{is_prop→PathP}

@@ -1,4 +1,4 @@
--- Tables of arguments, as rules behind those that a command has.
+-- Tables of arguments, as rules after those that a command has.
 use Rattle.std.proofs.Common.{◌≡◌, ◌∙◌, ◌++◌, ◌∷◌, [], List, ap, sym, append_assoc}
 use Rattle.std.proofs.lemmas.List.{append-nil}
 use Rattle.clap.specs.Words.{App, Rule, with_rule}

@@ -1,5 +1,5 @@
--- What the inputs come to: a text and the lines of what was refused on the way; the line of a finding; the line that tells
--- why an input is refused; or that a thread was not started.
+-- What the inputs come to: a text and the lines of what was refused on the way, or the line of a finding. Or it is the
+-- line that says why an input is refused, or that a thread was not started.
 use Rattle.std.specs.Prelude.{ℕ, List, Option, Some, None}
 
 pub data Answer : Type 0 where

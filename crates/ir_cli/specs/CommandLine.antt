@@ -1,6 +1,6 @@
 -- The command line: what each subcommand takes, with a line for each option, flag and file. How words are read by it is
--- told by the parser's own definitions (`Walk` of clap): `--NAME VALUE` or `--NAME=VALUE` gives an option its value, as `-X
--- VALUE` does with its letter, words that are no options go to the files in order, and behind `--` all words are files.
+-- given by the parser's own definitions (`Walk` of clap). `--NAME VALUE` or `--NAME=VALUE` gives an option its value, as
+-- `-X VALUE` does with its letter, words that are no options go to the files in order, and after `--` all words are files.
 use Rattle.std.specs.Prelude.{◌≡◌, ℕ, pos, true, false, List, [], ◌∷◌, ◌++◌, Some, codes, map, slice_get}
 use Rattle.std.specs.Borrow.{Bor}
 use Rattle.clap.specs.Words.{App, Rule, Shape, Text, new_rule}
@@ -94,7 +94,7 @@ json = flag (codes "json")
 abbrev pub as_json : List Rule
 as_json = json ∷ []
 
--- how all tell what they tell: to a file, with sentences for people, or with nothing on standard error
+-- how all report: to a file, with sentences for people, or with nothing on standard error
 abbrev pub telling : List Rule
 telling =
     lettered (codes "o") (option (codes "output"))

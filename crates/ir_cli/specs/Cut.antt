@@ -1,5 +1,5 @@
 -- One input for several texts: the first line that is exactly `%%` ends the first text, and the rest is the next.
--- The rest is an end of the input, so its lines tell its bytes.
+-- The rest is an end of the input, so its lines give its bytes.
 use Rattle.std.specs.Prelude.{◌≡◌, ℕ, ◌++◌, Bool, if◌then◌else◌, List, [], ◌∷◌, bytes_eq, codes}
 
 abbrev pub is_cut : List ℕ → Bool
@@ -10,7 +10,7 @@ abbrev pub topology_part : List (List ℕ) → List (List ℕ)
 topology_part [] = []
 topology_part (l ∷ ls) = if is_cut l then [] else l ∷ topology_part ls
 
--- the lines behind the cut; none where there is no cut
+-- the lines after the cut; none where there is no cut
 abbrev pub script_part : List (List ℕ) → List (List ℕ)
 script_part [] = []
 script_part (l ∷ ls) = if is_cut l then ls else script_part ls

@@ -19,13 +19,14 @@ status_of endings.Unwritable = 1
 status_of endings.NoMemory = 3
 status_of endings.NoThread = 3
 
--- the run ended with status 0, or with status 1 and nothing told on standard error: a finding stands in its output
+-- the run ended with status 0, or with status 1 and nothing reported on standard error: a finding is in its output
 abbrev pub is_whole : ℕ → Bool → Bool
 is_whole status is_told = status == 0 || status == 1 && not is_told
 
--- What a run comes to by the answers to its texts. `read` says that these are the texts of all inputs, and `stops` that the
--- reading stopped at this source, and why. `out` says what the writer of the output was given, and whether it took all of it,
--- or `unused` that it was given nothing; `told` says what the writer of faults was given, where one that fails is passed over.
+-- What a run comes to by the answers to its texts. `read` says that these are the texts of all inputs, and `stops` that
+-- the reading stopped at this source, and why. `out` says what the writer of the output was given, and whether it took
+-- all of it; `unused` says that it was given nothing. `told` says what the writer of faults was given, where one that
+-- fails is passed over.
 abbrev pub EndsAs : (List (List ℕ) → Answer → Type 0) → Ending → (read : List (List ℕ) → Type 0) (stops : Source → NoInput → Type 0) (out : Bool → List ℕ → Type 0) (unused : Type 0) (told : List ℕ → Type 0) → Type 0
 EndsAs answers endings.Done read stops out unused told =
     (texts : List (List ℕ)) × (text : List ℕ) × (refused : List ℕ) × read texts × answers texts (Ran text refused) × out true text × told refused

@@ -1,4 +1,4 @@
--- The lines that tell of a refusal, and of an input that was not read.
+-- The lines that report a refusal, and an input that was not read.
 use Rattle.std.specs.Prelude.{ℕ, ◌-◌, List, [], ◌∷◌, ◌++◌, Result, Ok, Err, codes, decimal, flat_map, slice_index_or}
 use Rattle.ir_model.specs.declared.Fault.{Fault}
 use Rattle.ir_adjlist.specs.Told as texts
@@ -130,7 +130,7 @@ abbrev pub reply_line : ℕ × Result Reply Refused → List ℕ
 reply_line (line, Ok reply) = []
 reply_line (line, Err refusal) = refused_line line refusal
 
--- the same, where the number of the line stands beside the refusal
+-- the same, where the number of the line is beside the refusal
 abbrev pub step_line : ℕ × Refused → List ℕ
 step_line step = refused_line step.0 step.1
 

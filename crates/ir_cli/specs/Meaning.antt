@@ -47,7 +47,7 @@ IsNumbering (File name) word = (word ≡ string_bytes name) × (word ≢ codes "
 abbrev pub numbering_word : List Row → Text
 numbering_word rows = unwrap_or (first_of (codes "numbering") rows) (codes "depth-first")
 
--- the topology's file, whose name tells the format where `--format` does not
+-- the topology's file, whose name says the format where `--format` does not
 abbrev pub topology_name : List Row → Text
 topology_name rows = unwrap_or (first_of (codes "topology") rows) (codes "-")
 
@@ -71,7 +71,7 @@ pub record IsDetour (detour : DetourChoice) (rows : List Row) : Type 0 where
   pub stretch : IsNumberElse (codes "stretch") rows MIN_STRETCH MAX_STRETCH MAX_STRETCH detour.stretch
   pub said : detour.is_said ≡ (is_some (first_of (codes "landmarks") rows) || is_some (first_of (codes "stretch") rows))
 
--- a flag stands among the words
+-- a flag is among the words
 abbrev pub is_set : Text → List Row → Bool
 is_set name rows = option_map_or (λ word. bytes_eq word (codes "true")) (first_of name rows) false
 
@@ -177,7 +177,7 @@ MeansMet None words = ⊥
 MeansMet (Some met) words = Means met.0 met.1 words × HasWhatIsAsked met.1 words
 
 module _ (called : Called) where
-  -- what the parser finds wrong with the words behind the program's name, by the command line
+  -- what the parser finds wrong with the words after the program's name, by the command line
   abbrev pub faults : Choices → List Text → Kinds
   faults choices typed = fault_of (program choices called) (name_of called ∷ typed)
 
@@ -185,7 +185,7 @@ module _ (called : Called) where
   abbrev pub met : Choices → List Text → Option (Text × List Row)
   met choices typed = subcommand_of (program choices called) (name_of called ∷ typed)
 
-  -- The words behind the program's name mean this: the parser finds nothing wrong with them, and reads them so.
+  -- The words after the program's name mean this: the parser finds nothing wrong with them, and reads them so.
   abbrev pub AsksAs : List Text → Words → Type 0
   AsksAs typed words = (choices : Choices) × AreTheirWords choices × (faults choices typed ≡ []) × MeansMet (met choices typed) words
 

@@ -1,4 +1,4 @@
--- The lines of notices, and what an outcome tells.
+-- The lines of notices, and what an outcome says.
 use Rattle.std.specs.Prelude.{◌≡◌, ◌≢◌, ℕ, Bool, true, List, Option, None, Some}
 use Rattle.ir_cli.specs.declared.ending.Ending.{Ending}
 use Rattle.ir_cli.specs.declared.ending.Ending.TheVariants as endings
@@ -24,7 +24,7 @@ notice_line notices.Unwritable = unwritable_line
 notice_line notices.NoMemory = out_of_memory_line
 notice_line notices.NoThread = no_thread_line
 
--- the lines of faults of what was told
+-- the lines of faults of what was reported
 abbrev pub told_text : Told → List ℕ
 told_text (Steps steps) = steps_text steps.items
 told_text (Fault notice) = notice_line notice

@@ -17,7 +17,7 @@ module _ {R : Type 0} (remaining : R → Option (List ℕ)) (gave : R → Result
   AreRead (first ∷ old) (text ∷ texts) (last ∷ new) = IsRead remaining gave first text last × AreRead old texts new
   AreRead old texts new = ⊥
 
-  -- The reader of a source was given up, and why. The readers before it were read to their ends, and those behind it were
+  -- The reader of a source was given up, and why. The readers before it were read to their ends, and those after it were
   -- not called.
   pub record IsUnread (sources : List Source) (old new : List R) (source : Source) (why : NoInput) : Type 0 where
     pub place : ℕ

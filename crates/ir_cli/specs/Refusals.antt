@@ -13,7 +13,7 @@ use Rattle.ir_cli.specs.CommandLine.{AreTheirWords}
 use Rattle.ir_cli.specs.Meaning.{MeansMet, faults, met}
 use Rattle.ir_cli.specs.Words.{AreTaken, FitsItsKind}
 
--- what holds of an error that tells of a mistake, and of one that tells what was asked for
+-- what holds of an error that reports a mistake, and of one that says what was asked for
 abbrev pub FailsOn : (mistake asked : Type 0) → WordsError → Type 0
 FailsOn mistake asked (refused.Usage text) = mistake
 FailsOn mistake asked (refused.Help text) = asked
@@ -28,14 +28,14 @@ abbrev pub IsMistake : ErrorKind → Type 0
 IsMistake kind = (kind ≢ DisplayHelp) × (kind ≢ DisplayVersion)
 
 module _ (called : Called) where
-  -- The words behind the program's name are refused: the parser finds a mistake in them, or it finds nothing wrong, and nothing
+  -- The words after the program's name are refused: the parser finds a mistake in them, or it finds nothing wrong, and nothing
   -- is asked for that is taken.
   abbrev pub RefusesAs : List Text → Type 0
   RefusesAs typed = (choices : Choices) × AreTheirWords choices
       × (((kind : ErrorKind) × IsAmong kind (faults called choices typed) × IsMistake kind)
       ⊎ ((faults called choices typed ≡ []) × NoneAsked (met called choices typed)))
 
-  -- the words behind the program's name ask for help or for the version
+  -- the words after the program's name ask for help or for the version
   abbrev pub AsksForHelpAs : List Text → Type 0
   AsksForHelpAs typed = (choices : Choices) × AreTheirWords choices
       × (IsAmong DisplayHelp (faults called choices typed) ⊎ IsAmong DisplayVersion (faults called choices typed))

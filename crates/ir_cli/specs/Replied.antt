@@ -8,7 +8,7 @@ use Rattle.ir_streams.specs.declared.reading.NoInput.{NoInput}
 use Rattle.ir_streams.specs.declared.reading.NoInput.TheVariants.{Unreadable, TooLarge, NoMemory}
 use Rattle.ir_cli.specs.Lines.{unwritable_line, unreadable_line, too_large_line, out_of_memory_line, no_thread_line}
 
--- what the writers were given of an answer; where memory for its lines was refused, that is told
+-- what the writers were given of an answer; where memory for its lines was refused, that is reported
 abbrev pub RepliesAs : Ending → Answer → (out : Bool → List ℕ → Type 0) (unused : Type 0) (told : List ℕ → Type 0) → Type 0
 RepliesAs endings.NoMemory answer out unused told = unused × told out_of_memory_line
 RepliesAs endings.Done (Ran trace refusals) out unused told = out true trace × told refusals
@@ -19,7 +19,7 @@ RepliesAs endings.Refused (Refused line) out unused told = unused × told line
 RepliesAs endings.NoThread NoThread out unused told = unused × told no_thread_line
 RepliesAs ending answer out unused told = ⊥
 
--- what is told of an input that was not read
+-- what is reported of an input that was not read
 abbrev pub UnreadAs : Source → Ending → NoInput → (told : List ℕ → Type 0) → Type 0
 UnreadAs source ending Unreadable told = (ending ≡ endings.Unreadable) × told (unreadable_line source)
 UnreadAs source ending TooLarge told = (ending ≡ endings.TooLarge) × told (too_large_line source)

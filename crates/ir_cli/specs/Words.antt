@@ -64,7 +64,7 @@ takes_list Shortest = true
 takes_list Compact = true
 takes_list Landmark = false
 
--- a tour is of a kind that takes another order, and a file of an order is no dash and stands beside no root
+-- a tour is of a kind that takes another order, and a file of an order is no dash and is beside no root
 abbrev pub takes_numbering : NumberingChoice → KindChoice → Bool → Bool
 takes_numbering DepthFirst kind has_root = true
 takes_numbering Tour kind has_root = takes_list kind

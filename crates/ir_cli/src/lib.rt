@@ -45,16 +45,16 @@ pub const MAX_LANDMARKS: u16 = 65_535;
 pub const MAX_EPOCH: u16 = 65_535;
 
 /// The least stretch of landmark plans, in percent of the distance, and the greatest, which is that
-/// where the words tell none.
+/// where the words name none.
 pub const MIN_STRETCH: u16 = 100;
 
 pub const MAX_STRETCH: u16 = 300;
 
-/// The capacity of each channel and inbox where the words tell none.
+/// The capacity of each channel and inbox where the words name none.
 pub const DEFAULT_CAPACITY: &str = "16";
 
-/// The most packets of a run where the words tell none.
+/// The most packets of a run where the words name none.
 pub const DEFAULT_PACKETS: &str = "4096";
 
-/// The most restamps of a packet where the words tell none.
+/// The most restamps of a packet where the words name none.
 pub const DEFAULT_RESTAMPS: &str = "0";

@@ -1,4 +1,4 @@
-//! What the lines of faults and of a check tell, as values.
+//! What the lines of faults and of a check say, as values.
 use crate::read::Source;
 use ir_adjlist::TextError;
 use ir_core::OpenError;

@@ -30,7 +30,7 @@ pub enum RunReply {
     NoThread,
 }
 
-/// Tells that a run ended with nothing but the line of a notice.
+/// Reports that a run ended with nothing but the line of a notice.
 pub fn tell_fault<F: Writer>(
     faults: &mut F,
     ending: Ending,
@@ -51,7 +51,7 @@ pub fn tell_fault<F: Writer>(
     }
 }
 
-/// Tells why an input was not read.
+/// Reports why an input was not read.
 pub fn tell_unread<F: Writer>(faults: &mut F, source: Source, why: NoInput) -> RunOutcome
     ensures ends { UnreadAs source result.ending why (Tells F.contents F.wrote F.settled faults.old faults.new) }
     ensures told { Tells F.contents F.wrote F.settled faults.old faults.new (told_text result.told) }

@@ -114,7 +114,7 @@ pub struct Words {
     pub each: bool,
     /// Whether no number is to match two lines of a node, for `prefixes`.
     pub disjoint: bool,
-    /// Whether the order of the labels is to stand in place of the rows, for `plan`.
+    /// Whether the order of the labels is to be in place of the rows, for `plan`.
     pub order_alone: bool,
     /// The nodes whose lines alone are printed, never beside `order_alone`, for `plan`; all where there are none.
     pub nodes: Option<Span>,
@@ -128,7 +128,7 @@ pub struct Words {
     pub json: bool,
     /// The name of the file that the output goes to; standard output where there is none.
     pub output: Option<String>,
-    /// Whether nothing is to stand on standard error.
+    /// Whether nothing is to be on standard error.
     pub quiet: bool,
     pub files: Vec<String>,
 }

@@ -60,7 +60,7 @@ some_of : (x : Option ℕ) → IsSome x → x ≡ Some (unwrap_or x 0)
 some_of None is = absurd (both_ways false refl is)
 some_of (Some q) is = refl
 
--- destinations are stood for by their ports
+-- destinations are represented by their ports
 pub plain_stands : (n own : ℕ) (plain : List ℕ) (ports : List (Option ℕ)) → IsDestinations n own ports → plain ≡ map (λ port. unwrap_or port 0) ports → StandFor n own plain ports
 plain_stands n own plain ports are is = record {
   every = ap length is ∙ length-map ports (λ port. unwrap_or port 0) ∙ are.every;
@@ -70,7 +70,7 @@ plain_stands n own plain ports are is = record {
       ∙ ap Some (sym (ap (λ (xs : List ℕ). slice_index xs d) is ∙ get_or-map (λ port. unwrap_or port 0) ports d None 0 (omega (arith, are.every, label))));
 }
 
--- some destinations are stood for by any numbers
+-- some destinations are represented by any numbers
 pub some_stand : (n own : ℕ) (plain : List ℕ) → own < n → length plain ≡ n → (ports : List (Option ℕ)) × StandFor n own plain ports
 some_stand n own plain has_own every =
     let all : List (Option ℕ) = map Some plain in

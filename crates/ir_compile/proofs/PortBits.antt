@@ -128,7 +128,7 @@ runs_more n words a counts ports count port here there before run k l k_in =
           (subst (λ (x : ℕ). IsWordRun n words a count x) (sym (get_or-set_same ports a port 0 there)) run))
     ]
 
--- where the first word has a port, some words behind it are gone through
+-- where the first word has a port, some words after it are gone through
 pub begun : (words : List ℕ) (n from to common : ℕ) → 0 < n → 0 < slice_index words from → slice_index words from < 2 ^ 32 → from ≤ to → AreCommon words from to common
     → (to < from + n → bit_and (bit_and 4294967295 common) (slice_index words to) ≡ 0) → from < to
 begun words n from to common some first fits order are stops =

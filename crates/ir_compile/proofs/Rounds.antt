@@ -56,7 +56,7 @@ module _ (n own : ℕ) (counts : List ℕ) (steps : AreSteps n own counts) (on :
       (next_off n own counts steps t (from_is_label n s d label) j (off_d steps_d.0)) (omega (arith, up, same)) short in
       omega (arith, rest)
 
-  -- a round that begins within the first run, but behind where the last run of the round from s ends, has no fewer
+  -- a round that begins within the first run, but after where the last run of the round from s ends, has no fewer
   pub no_fewer : (k past d others : ℕ) → s ≢ own → label_from n s d ≢ own → Reaches n counts s 0 k (n + past) → d ≤ slice_index counts s → past < d
       → Steps n counts (label_from n s d) 0 others → k ≤ others
   no_fewer zero past d others off off_d go near short steps_d = omega arith

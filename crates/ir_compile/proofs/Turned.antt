@@ -1,4 +1,4 @@
--- What stands at the places of a round, by label.
+-- What is at the places of a round, by label.
 use Rattle.std.proofs.Common.{◌≡◌, ℕ, ◌+◌, ◌-◌, ◌<◌, ◌≤◌, List, ◌++◌, drop, take, length, slice_index, ap, ◌∙◌, inl, inr, arith}
 use Rattle.std.proofs.lemmas.List.{get_or_append_left, get_or-append-add, get_or-take, get_or-drop, length-append, length-take-le, length-drop}
 use Rattle.ir_model.specs.Choices.{label_from}

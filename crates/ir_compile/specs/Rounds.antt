@@ -14,7 +14,7 @@ abbrev pub Reaches : ℕ → List ℕ → ℕ → ℕ → ℕ → ℕ → Type 0
 Reaches n counts s i zero e = i ≡ e
 Reaches n counts s i (suc k) e = (i < n) × Reaches n counts s (next_place n counts s i) k e
 
--- the first label with the fewest steps, of the labels before the place `last` behind the own one; from the first one there are `first`
+-- the first label with the fewest steps, of the labels before the place `last` after the own one; from the first one there are `first`
 pub record IsFirstTo (n own : ℕ) (counts : List ℕ) (first last t : ℕ) : Type 0 where
   pub off_own : 0 < t
   pub in_round : t < n

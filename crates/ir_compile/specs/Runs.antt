@@ -13,7 +13,8 @@ pub record HasMarked (n : ℕ) (row : List Bool) (marked : List ℕ) : Type 0 wh
   pub label : (d : ℕ) → Contains marked d → d < n
   pub every : (d : ℕ) → d < n → Marks row d → Contains marked d
 
--- of the run of the port m from the label a on, by its marks, and the run of c labels of the port p, the longer one, or that of p where they are as long
+-- the longer of two runs: that of the port m from the label a on, by its marks, and that of c labels of the port p,
+-- which is taken where both are as long
 pub record IsRunKept (n own : ℕ) (row : List Bool) (m a c p count port : ℕ) : Type 0 where
   pub run : ℕ
   pub longest : IsRowRun n own row a run

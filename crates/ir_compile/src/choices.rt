@@ -1,4 +1,4 @@
-//! One port for each label, of the several that it may take, such that the fewest intervals tell the ports.
+//! One port for each label, of the several that it may take, such that the fewest intervals give the ports.
 
 ghost use Rattle.std.specs.Prelude.{◌≡◌, ◌<◌, ℕ, List, Option, length, IfOk};
 ghost use Rattle.ir_model.specs.{Compiled.IsCanonical};
@@ -11,12 +11,12 @@ use ir_lookup::Row;
 use std::alloc::{AllocError, Global};
 
 /// The canonical row of the ports by the first round with the fewest runs, going round from the
-/// label after the own one, where a run of so many labels of one port begins at each label.
-/// Conditions: there are two labels at least, the own one is a label, each run but the own label's
-/// has a label, none that doesn't end the round ends before the own one, and a run that begins
-/// within another one ends no sooner, as is so of longest runs. Takes O(n + l k), for at most k
-/// runs of a round, and l places that the last run of the round from the label after the own one
-/// ends behind its end.
+/// label after the own one. At each label begins a run of so many labels of one port. Conditions:
+/// there are at least two labels, and the own one is a label. Each run but the own label's has a
+/// label. A run that does not end the round does not end before the own label. A run that begins
+/// within another one ends no sooner, as longest runs do. Takes O(n + l k), for at most k runs of a
+/// round, and l places that the last run of the round from the label after the own one ends after
+/// its end.
 pub fn row_of_longest(
     alloc: Global,
     n: u16,

@@ -23,8 +23,8 @@ pub use runs::{MarkedPort, keep_longer};
 use std::alloc::{AllocError, Global};
 pub use words::{WORD_PORTS, runs_by_words};
 
-/// The canonical row of the node with the label `own` among `n` nodes, given its port to each label: going round the
-/// labels after its own, a start stands where the port differs from that of the label before, and where all ports are
+/// The canonical row of the node with the label `own` among `n` nodes, given its port to each label. Going round the
+/// labels after its own, there is a start where the port differs from that of the label before. Where all ports are
 /// equal there is one start, after the own label. No set of intervals that gives each label its port is smaller.
 ///
 /// `BadRow` where `ports` does not have one entry for each of the `n` labels, `own` is no label, the own label has a
@@ -70,7 +70,7 @@ fn plain_ports(alloc: Global, ports: &[Option<u16>]) -> Result<Vec<u16>, AllocEr
     Ok(plain)
 }
 
-/// The row that `canonical_row` makes, of ports by label that are plain numbers; whatever stands at
+/// The row that `canonical_row` makes, of ports by label that are plain numbers; whatever is at
 /// the own label is passed over. Conditions: there is a port for each of `n` labels, and `own` is
 /// one of them. It is refused for memory alone. Takes O(n).
 pub fn row_of_ports(alloc: Global, n: u16, own: u16, plain: &[u16]) -> Result<Row, AllocError>
@@ -147,7 +147,7 @@ fn is_change(own: u16, d: u16, port: u16, last: u16) -> bool
     (d != own) & (port != last)
 }
 
-// Puts a word behind the first so many, and answers how many are kept then: one more, or as many. There is no branch.
+// Puts a word after the first so many, and answers how many are kept then: one more, or as many. There is no branch.
 #[inline(always)]
 fn put(words: &mut [u32], count: usize, word: u32, is_kept: bool) -> usize
     requires { count < length words.old }

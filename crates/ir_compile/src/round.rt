@@ -37,7 +37,7 @@ fn place_after(n: u16, start: u16, place: u16, counts: &[u16]) -> u16
     if count < left { place + count } else { n }
 }
 
-// How many runs a round has that begins at a label off the own one, and how many places behind its
+// How many runs a round has that begins at a label off the own one, and how many places after its
 // end the last one ends.
 fn round_from(n: u16, own: u16, start: u16, counts: &[u16]) -> (u16, u16)
     requires steps { AreSteps n own counts.now }
@@ -54,7 +54,7 @@ fn round_from(n: u16, own: u16, start: u16, counts: &[u16]) -> (u16, u16)
     (steps, (place - n as u32) as u16)
 }
 
-/// The same, where a run that begins within another one ends no sooner. A round that begins behind the place where the
+/// The same, where a run that begins within another one ends no sooner. A round that begins after the place where the
 /// last run of the first round ends has no fewer runs either.
 pub fn first_of_longest(n: u16, own: u16, counts: &[u16]) -> u16
     requires two { 1 < n }
@@ -96,7 +96,7 @@ fn first_to(n: u16, own: u16, counts: &[u16], first: u16, last: u16) -> u16
     best
 }
 
-// The place behind the last one to try.
+// The place after the last one to try.
 fn last_near(n: u16, count: u16) -> u16
     requires { 1 < n }
     ensures inside { result ≤ n }
@@ -105,7 +105,7 @@ fn last_near(n: u16, count: u16) -> u16
     if count < n - 2 { count + 2 } else { n }
 }
 
-/// The ports by label that the runs give in the round from a label on, as plain numbers; what stands at the own label
+/// The ports by label that the runs give in the round from a label on, as plain numbers; what is at the own label
 /// says nothing.
 pub fn plain_round(
     alloc: Global,
@@ -148,7 +148,7 @@ fn put_round(places: &mut [u16], n: u16, own: u16, start: u16, counts: &[u16], p
     }
 }
 
-// What stands at the places of the round from a label on, by label.
+// What is at the places of the round from a label on, by label.
 fn turned(alloc: Global, n: u16, start: u16, places: &[u16]) -> Result<Vec<u16>, AllocError>
     requires start { start < n }
     requires room { n ≤ length places.now }

@@ -59,7 +59,7 @@ fn sixteen_runs(twice: &[u32], from: usize) -> Option<(u32x16, u32x16)>
     None
 }
 
-// Puts sixteen runs, by their sizes and ports, behind those that stand, each by its least port.
+// Puts sixteen runs, by their sizes and ports, after those that are there, each by its least port.
 fn put_runs(
     n: usize,
     twice: &[u32],
@@ -125,7 +125,7 @@ fn where_some(lanes: u32x16, some: u32x16, none: u32x16) -> u32x16
     lanes.simd_eq(u32x16::splat(0)).select(none, some)
 }
 
-/// Puts a port to the places of a run, and to up to fifteen places behind it.
+/// Puts a port to the places of a run, and to up to fifteen places after it.
 pub fn put_run(places: &mut [u16], from: usize, to: usize, port: u16)
     requires room { to + 16 ≤ length places.old }
     ensures length { length places.new ≡ length places.old }

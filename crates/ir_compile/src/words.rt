@@ -192,7 +192,7 @@ fn put_backs(twice: &[u32], backs: &mut [u32], from: usize, to: usize)
     }
 }
 
-// The longest runs from the labels of a block, from its first label to behind its last.
+// The longest runs from the labels of a block, from its first label to after its last.
 fn fill_block(
     n: usize,
     twice: &[u32],
@@ -228,7 +228,7 @@ fn fill_block(
     }
 }
 
-// How far the words go on that have a port in common with a word of ports, and the ports that are common behind it.
+// How far the words go on that have a port in common with a word of ports, and the ports that are common after it.
 #[inline(always)]
 fn extended(twice: &[u32], limit: usize, back: u32, end: usize, front: u32) -> (usize, u32)
     requires limit { end ≤ limit }

@@ -1,4 +1,4 @@
--- The stamps that a report tells are of one registry, and what some of them agree to all do.
+-- The stamps that a report has are of one registry, and what some of them agree to all do.
 use Rattle.std.specs.Prelude.{◌≡◌, ℕ, zero, suc, ◌-◌, List, [], ◌∷◌, ◌++◌, All, Some, length, map, reverse, slice_get, slice_index_or}
 use Rattle.std.proofs.Common.{refl, arith, sym, ap, ◌∙◌, subst, get_or}
 use Rattle.std.proofs.Math.Logic.{∥∥₁_elim, ∥∥₁_prop}
@@ -73,7 +73,7 @@ get_map f [] p x got = absurd (none-some x got)
 get_map f (y ∷ xs) zero x got = ap (λ z. Some (f z)) (same_Some y x got)
 get_map f (y ∷ xs) (suc p) x got = get_map f xs p x got
 
--- the stamps that a report tells are of the registry of these
+-- the stamps that a report has are of the registry of these
 module _ (opening : Stamp) (plans : List Stamp) (registry : AreOfOne opening plans) (outcomes : List Outcome) (of_net : All (IsOutcomeIn opening) outcomes) where
   named : (k : ℕ) (o : Outcome) → slice_get outcomes k ≡ Some o → All (λ s. registry_name s ≡ registry_name opening) (stamps_of o.stamp o.later.items)
   named k o got = names opening o (at_all (IsOutcomeIn opening) outcomes of_net k o got)

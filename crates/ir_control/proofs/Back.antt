@@ -21,7 +21,7 @@ use Rattle.ir_epochs.specs.Looks.{Look}
 use Rattle.ir_control.specs.Lives.{AreSameNodes, HaveTurned}
 use Rattle.ir_control.specs.Runs.{CameBack}
 
--- what stands in a list weighs no more than the list
+-- what is in a list weighs no more than the list
 weighs_at : {X : Type 0} (w : X → ℕ) (xs : List X) (k : ℕ) (x : X) → slice_get xs k ≡ Some x → w x ≤ sum_by w xs
 weighs_at w [] k x got = absurd (none-some x got)
 weighs_at {X} w (y ∷ xs) zero x got =

@@ -1,4 +1,4 @@
--- What a report tells of a packet that is not left, a node settled in one of its turns, for a cause that held.
+-- What a report says of a packet that is not left, a node settled in one of its turns, for a cause that held.
 use Rattle.std.specs.Prelude.{◌≡◌, ◌≢◌, ℕ, ◌<◌, List, All, Some, length, slice_get, slice_index_or}
 use Rattle.std.proofs.Common.{arith, sym, subst}
 use Rattle.std.proofs.lemmas.Option.{slice_get-get_or, slice_get_within, get_or_from_slice_get}

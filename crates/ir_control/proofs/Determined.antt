@@ -1,4 +1,4 @@
--- What the nodes settled and what is left determines what a report tells of each packet.
+-- What the nodes settled and what is left determines what a report says of each packet.
 use Rattle.std.specs.Prelude.{◌≡◌, ◌≢◌, ℕ, zero, suc, ◌+◌, ◌<◌, ◌==◌, cond, List, [], ◌∷◌, Some, option_map, length, map, sum_by, slice_get}
 use Rattle.std.proofs.Common.{refl, arith, sym, ap, ◌∙◌, subst, eq-eqb}
 use Rattle.std.proofs.lemmas.Bool.{lt-ltb}
@@ -105,7 +105,7 @@ module _ (net : Net) (nodes : List Node) (injector : Injector) (report : Report)
         omega (arith, all, here, own, rest))) in
         ap (λ (r : Record). r.fate) same ∙ subst (λ (y : Parcel). y.packet.fate ≡ Left) (get_or_from_slice_get is.left x.0 x.1 x.1 x.2) (is.fates x.0 x.1 (slice_get_within is.left x.0 x.1 x.2))
 
-    -- what is not told as left a node settled
+    -- what is not reported as left a node settled
     pub settled_here : o.packet.fate ≢ Left → IsSettledHere
     settled_here ended = by_count (sum_by (settled_for k (λ _. 1)) nodes) refl
       where
@@ -113,7 +113,7 @@ module _ (net : Net) (nodes : List Node) (injector : Injector) (report : Report)
         by_count zero e = absurd (ended (is_left e (let all : 1 ≡ sum_by (settled_for k (λ _. 1)) nodes + sum_by (left_for k (λ _. 1)) is.left = weighed (λ _. 1) in omega (arith, all, e))))
         by_count (suc n) e = (let all : 1 ≡ sum_by (settled_for k (λ _. 1)) nodes + sum_by (left_for k (λ _. 1)) is.left = weighed (λ _. 1) in by_a_node (omega (arith, all, e)) (omega (arith, all, e)))
 
--- two reports of the same nodes and injector tell the same records
+-- two reports of the same nodes and injector have the same records
 pub same_records : (net : Net) (nodes : List Node) (injector : Injector) (report other : Report) → IsReport net nodes injector report → IsReport net nodes injector other → report.records.items ≡ other.records.items
 same_records net nodes injector report other a b =
     a.records

@@ -41,7 +41,7 @@ marks_from b (Changed c ∷ entries) h = marks_from (changed b c) entries (chang
 pub marks_len : (entries : List Entry) → length (board_of entries).up ≡ MAX_LINKS
 marks_len entries = marks_from opening_board entries (length-replicate {A = Bool} MAX_LINKS true)
 
--- an end that stands at a place is of that place's line
+-- an end that is at a place is of that place's line
 pub place_of_end : (o : Stamp) (restamps : ℕ) (outs : List (Sender Place Parcel)) (u : ℕ) (s : Sender Place Parcel) → AreEntryEnds o restamps (lines_out outs) → slice_get outs u ≡ Some s
     → s.channel.place ≡ net_place o restamps u u
 place_of_end o restamps outs u s ends got =

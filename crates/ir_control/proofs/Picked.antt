@@ -80,7 +80,7 @@ own_only k f r e = go (eqb r.id k) refl e
     go true is one = ap (λ (b : Bool). cond {A = ℕ} b (f r) 0) is
     go false is one = absurd (let none : cond {A = ℕ} false 1 0 ≡ 0 = refl in omega (arith, one, none))
 
--- a fate, from numbers that tell it
+-- a fate, from numbers that give it
 abbrev tag : Fate → ℕ
 tag Delivered = 0
 tag Retired = 1

@@ -1,4 +1,4 @@
--- The restamps that a report tells are of epochs that were current on the board that the nodes read.
+-- The restamps that a report has are of epochs that were current on the board that the nodes read.
 use Rattle.std.specs.Prelude.{◌≡◌, ℕ, suc, ◌+◌, Bool, true, false, cond, List, [], ◌∷◌, Some, sum_by, slice_get}
 use Rattle.std.proofs.Common.{refl, arith, ap, get_or}
 use Rattle.std.proofs.lemmas.Option.{get_or_from_slice_get, slice_get_within}

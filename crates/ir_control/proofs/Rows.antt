@@ -140,7 +140,7 @@ module _ {X : Type 0} (net : Topology) (Q : ℕ → Hop → X → Type 0) where
     each = λ v j hop x at got. filled.before v j hop x (let lt = port_node net v j hop at in omega (arith, lt, is)) at got;
   }
 
--- what stands at a place within a row
+-- what is at a place within a row
 has_some : {X : Type 0} (xs : List X) (k : ℕ) → k < length xs → (x : X) × (slice_get xs k ≡ Some x)
 has_some [] k lt = absurd (omega (arith, lt))
 has_some (x ∷ xs) zero lt = (x, refl)

@@ -84,7 +84,7 @@ module _ {X : Type 0} (key : X → ℕ) where
     go true e = ap (λ j. slot_weight (hit key i) (slice_index_or slots j None)) (eqb-true k i e) ∙ ap (slot_weight (hit key i)) none
     go false e = other_counts (slice_index_or slots k None) i k (own k) (eqb-false k i e)
 
-  -- a number that is met once stands in its slot
+  -- a number that is met once is in its slot
   pub full_at : (slots : List (Option X)) → AllAt key slots → (i : ℕ) → 0 < sum_by (slot_weight (hit key i)) slots
       → (x : X) × (slice_index_or slots i None ≡ Some x) × (key x ≡ i)
   full_at slots at i some = go (slice_index_or slots i None) refl where

@@ -1,4 +1,4 @@
--- Each outcome goes into the slot of its packet, and is told in order.
+-- Each outcome goes into the slot of its packet, and is reported in order.
 use Rattle.std.specs.Prelude.{◌≡◌, ℕ, suc, ◌+◌, ◌<◌, ◌≤◌, List, [], ◌∷◌, ◌++◌, All, Option, Some, None, length, map, sum_by, slice_index_or}
 use Rattle.std.proofs.Common.{refl, arith, sym, ap, ◌∙◌, ◌⊎◌, inl, inr}
 use Rattle.std.proofs.lemmas.Bool.{cases_eq}

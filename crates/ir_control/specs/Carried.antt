@@ -30,7 +30,7 @@ pub record IsSameInjector (before after : Injector) : Type 0 where
   pub lines : lines_out after.outs.items ≡ lines_out before.outs.items
   pub most : after.max_packets ≡ before.max_packets
 
--- what comes of an inject, where the word tells of refused pushes
+-- what comes of an inject, where the word records refused pushes
 abbrev pub IsInjectedAs : Word Parcel → ℕ → ℕ → Injector → CommandAnswer → Injector → Type 0
 IsInjectedAs was_full source dest before (Ok (Some s)) after = ⊥
 IsInjectedAs was_full source dest before (Ok None) after = (id : ℕ) × IsInjectAnswer was_full source dest before (Ok id) after
@@ -94,8 +94,8 @@ module _ (was_full : Word Parcel) {B : Type 0} where
   AreCarriedOut (c ∷ commands) before [] after = ⊥
   AreCarriedOut (c ∷ commands) before (answer ∷ answers) after = (next : Desk B) × IsCarriedOut c before answer next × AreCarriedOut commands next answers after
 
-  -- The commands were carried out. The refused ones are told by their places, and the stamps are that of the opening and those of
-  -- the epochs that were installed.
+  -- The commands were carried out. The refused ones are reported by their places. The stamps are that of the opening and those
+  -- of the epochs that were installed.
   abbrev pub AreTold : List Command → Desk B → Desk B → Stamp → List (ℕ × Refused) → List Stamp → Type 0
   AreTold commands before after opening refusals stamps = (answers : List CommandAnswer) × AreCarriedOut commands before answers after
       × (refusals ≡ refusals_from 0 answers) × (stamps ≡ opening ∷ stamps_in answers)

@@ -45,7 +45,7 @@ module _ {R : Type 0} where
   abbrev pub marking_refused : Controller R → ℕ → Bool → Option Refused
   marking_refused c link up = mark_refused (length (knows c.opening).topology.links) (newest_board c) link up
 
-  -- it is the same controller, which has published this one change more; the receipt tells of it
+  -- it is the same controller, which has published this one change more; the receipt says so
   pub record Publishes (before after : Controller R) (c : Change) (t : Receipt) : Type 0 where
     pub published_is : published after.writer ≡ published before.writer ++ Changed c ∷ []
     pub told_is : told t ≡ published after.writer

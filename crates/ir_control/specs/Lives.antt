@@ -36,14 +36,14 @@ pub record AreSameNodes (before after : List Node) : Type 0 where
   pub count : length after ≡ length before
   pub each : (k : ℕ) (d e : Node) → k < length before → IsSameNode (slice_index_or before k d) (slice_index_or after k e)
 
--- Each node made a list of turns, and might end behind so many.
+-- Each node made a list of turns, and might end after so many.
 abbrev pub HaveTurned : Word Parcel → Word Parcel → Look Parcel → (ℕ → ℕ → Type 0) → List Node → List Node → Type 0
 HaveTurned was_full was_empty looked may_end before after =
     (k : ℕ) (d e : Node) → k < length before
     → (turns : List Turn) × AreTurns was_full was_empty looked (slice_index_or before k d) turns (slice_index_or after k e) × may_end (slice_index_or before k d).index (length turns)
 
--- One of the nodes settled the packet of this record, in a turn between those from when it was handed out to when it came back, and the cause that the
--- record's fate names held, on a board of a beginning of these entries.
+-- One of the nodes settled the packet of this record, in a turn between those from when it was handed out to when it
+-- came back. The cause that the record's fate names held, on a board of a beginning of these entries.
 abbrev pub WasSettled : Word Parcel → Word Parcel → Look Parcel → List Entry → List Node → List Node → Record → Type 0
 WasSettled was_full was_empty looked entries before after r =
     (u : ℕ) × (a : Node) × (b : Node) × (slice_get before u ≡ Some a) × (slice_get after u ≡ Some b) × HadCause was_full was_empty looked entries a b r
@@ -76,7 +76,7 @@ pub record HaveComeBack (was_full was_empty : Word Parcel) (looked : Look Parcel
   -- the nodes that came back, which are the same, in the same order
   pub last : List Node
   pub same_nodes : AreSameNodes first last
-  -- each made a list of turns, and might end behind so many
+  -- each made a list of turns, and might end after so many
   pub turned : HaveTurned was_full was_empty looked may_end first last
   -- each of these very nodes was shown as it came back
   pub shown : All came_back last
@@ -92,9 +92,9 @@ pub record IsReported (was_full was_empty : Word Parcel) (looked : Look Parcel) 
   pub nodes_of : AreNodesOf net last
   pub all_there : AreAllThere net last
   pub injector_of : IsInjectorOf net injector
-  -- what is told is what the nodes settled and what is left
+  -- what is reported is what the nodes settled and what is left
   pub told : IsReport net last injector report
-  -- each packet that is not told as left was settled by a node, for a cause that held
+  -- each packet that is not reported as left was settled by a node, for a cause that held
   pub causes : All (λ r. r.fate ≢ Left → WasSettled was_full was_empty looked entries first last r)
       report.records.items
 
@@ -111,9 +111,9 @@ pub record AreSoundByPlans (net : Net) (commands : List Command) (answers : List
       commands answers
   pub sound : All (λ r. ∥ IsSoundRecord net.restamps (IsPlanIn plans) r ∥₁) records
 
--- A live run of a net. The words tell of refused pushes and pops, of looks at the board, behind how
--- many turns a node of a number may end, of nodes that were shown as they came back, and of an
--- injector that was shown after the commands.
+-- A live run of a net. The words record refused pushes and pops, looks at the board, and after how
+-- many turns a node of a number may end. They also record nodes that were shown as they came back,
+-- and an injector that was shown after the commands.
 pub record IsLive (B : Type 0) (was_full was_empty : Word Parcel) (looked : Look Parcel)
     (may_end : ℕ → ℕ → Type 0) (came_back : Node → Type 0) (was_closed : Injector → Type 0)
     (net : Net) (commands : List Command) (live : Live) : Type 0 where

@@ -17,8 +17,8 @@ use Rattle.ir_control.specs.declared.net.Net.{Net}
 use Rattle.ir_control.specs.declared.injector.Injector.{Injector}
 use Rattle.ir_control.specs.declared.controller.Controller.{Controller}
 
--- A node of a net, which allows as many restamps as the net: its inbox is that of its number, its ways out are those of its ports' places, and its ways in those of
--- their peers.
+-- A node of a net, which allows as many restamps as the net. Its inbox is that of its number, its ways out are those of
+-- its ports' places, and its ways in those of their peers.
 pub record IsNodeOf (net : Net) (n : Node) : Type 0 where
   pub index_in : n.index < node_count net.topology
   pub opening : n.opening ≡ net.opening

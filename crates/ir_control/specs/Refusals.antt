@@ -25,7 +25,7 @@ pub record InjectsNothing (before after : Injector) : Type 0 where
   pub outs : after.outs.items ≡ before.outs.items
   pub accepted : after.accepted.items ≡ before.accepted.items
 
--- what an injector answers to an inject, where the word tells of refused pushes
+-- what an injector answers to an inject, where the word records refused pushes
 abbrev pub IsInjectAnswer : Word Parcel → ℕ → ℕ → Injector → Result ℕ Refused → Injector → Type 0
 IsInjectAnswer was_full source dest before answer after = MatchResult answer
     (λ id. (inject_refused (node_count (knows before.opening).topology) before.max_packets (length before.accepted.items) source dest ≡ None)

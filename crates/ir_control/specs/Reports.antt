@@ -19,7 +19,7 @@ use Rattle.ir_control.specs.Rowed.{node_settled, node_taken, node_sent}
 use Rattle.ir_control.specs.Slots.{hit}
 use Rattle.ir_control.specs.Told.{Told, outcome_told, told_left, IsOutcomeIn}
 
--- a report that tells of nothing, and has room for so many packets
+-- an empty report, which has room for so many packets
 pub record IsEmptyReport (m : ℕ) (report : Report) : Type 0 where
   pub records : (report.records.items ≡ []) × (m ≤ vec_capacity report.records)
   pub stamps : (report.stamps.items ≡ []) × (m ≤ vec_capacity report.stamps)
@@ -37,9 +37,9 @@ pub record HasReportRoom (n ways m : ℕ) (room : Room) : Type 0 where
 abbrev pub IsSoundOutcome : Outcome → Type 0
 IsSoundOutcome o = (o.packet.epoch ≡ o.stamp.epoch) × ∥ IsSoundByStamps (stamps_of o.stamp o.later.items) o.packet ∥₁
 
--- The report tells these outcomes: their heads are those of the accepted packets, in order, each is sound by its stamps,
--- which are of the net, and has no more restamps than the net allows; and they are what the nodes settled and what is left, each as often. What is left is what was
--- sent and not taken, and has the fate Left.
+-- The report has these outcomes: their heads are those of the accepted packets, in order. Each is sound by its stamps,
+-- which are of the net, and has no more restamps than the net allows. They are what the nodes settled and what is left,
+-- each as often. What is left is what was sent and not taken, and has the fate Left.
 pub record IsReport (net : Net) (nodes : List Node) (injector : Injector) (report : Report) : Type 0 where
   pub outcomes : List Outcome
   pub records : report.records.items ≡ map (λ o. o.packet) outcomes

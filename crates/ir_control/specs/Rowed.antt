@@ -47,7 +47,7 @@ pub record KeepRoom (before after : EndRows) : Type 0 where
   pub senders : vec_capacity before.senders ≤ vec_capacity after.senders
   pub settled : vec_capacity before.settled ≤ vec_capacity after.settled
 
--- the ends of a node come behind what was in the rows, each sender in a slot of its own
+-- the ends of a node come after what was in the rows, each sender in a slot of its own
 pub record AppendsEnds (before : EndRows) (n : Node) (after : EndRows) : Type 0 where
   pub inboxes : after.inboxes.items ≡ before.inboxes.items ++ n.entrances.inbox ∷ []
   pub takers : after.takers.items ≡ before.takers.items ++ n.entrances.ports.items

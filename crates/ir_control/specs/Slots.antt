@@ -2,7 +2,7 @@
 use Rattle.std.specs.Prelude.{◌≡◌, ◌≤◌, ℕ, ◌+◌, List, [], ◌∷◌, ◌++◌, Option, Some, None, cond, length, sum_by, slice_index_or, ltb, ◌==◌}
 use Rattle.ir_links.specs.Ends.{Sender, Taker, Remains}
 
--- things weighed, whatever each weighs: so lists are told apart by how often each thing stands in them
+-- things weighed, whatever each weighs: so lists are told apart by how often each thing is in them
 abbrev pub slot_weight : {X : Type 0} → (X → ℕ) → Option X → ℕ
 slot_weight w None = 0
 slot_weight w (Some x) = w x
@@ -51,6 +51,6 @@ pub record CameIntoSlots {X : Type 0} (key : X → ℕ) (before after : List (Op
   pub at : AllAt key after
   pub weighs : (w : X → ℕ) → sum_by (slot_weight w) after ≡ sum_by (slot_weight w) before + weight w
 
--- what stands in a slot is of this kind
+-- what is in a slot is of this kind
 abbrev pub AllIn : {X : Type 0} → (X → Type 0) → List (Option X) → Type 0
 AllIn {X} P slots = (k : ℕ) (x : X) → slice_index_or slots k None ≡ Some x → P x

@@ -1,4 +1,4 @@
--- What a report tells of a packet.
+-- What a report says of a packet.
 use Rattle.std.specs.Prelude.{◌≡◌, ℕ, ◌+◌, List, All, Option, Some, Vec, length, map, sum_by}
 use Rattle.std.specs.Global.{Global}
 use Rattle.ir_core.specs.declared.packet.Fate.TheVariants.{Left}
@@ -43,7 +43,7 @@ pub record AreLeftPlaced (before after : List (Option Outcome)) (left : List Par
   pub weighs : (w : Told → ℕ) → sum_by (slot_weight (λ o. w (outcome_told o))) after ≡ sum_by (slot_weight (λ o. w (outcome_told o))) before + sum_by (λ x. w (told_left x)) left
   pub fates : All (λ x. x.packet.fate ≡ Left) left
 
--- the report tells what stands in these slots, in order
+-- the report says what is in these slots, in order
 abbrev pub TellsOf : List (Option Outcome) → Report → Type 0
 TellsOf slots report = (outcomes : List Outcome) × (slots ≡ map (λ o. Some o) outcomes)
     × (report.records.items ≡ map (λ o. o.packet) outcomes) × (report.stamps.items ≡ map (λ o. o.stamp) outcomes)

@@ -22,7 +22,7 @@ pub record AreInboxes (net : Topology) (opening : Stamp) (restamps capacity : �
   pub count : length inboxes ≡ node_count net
   pub each : (u : ℕ) (channel : Channel Place) → slice_get inboxes u ≡ Some channel → IsNetChannel opening restamps capacity u u channel
 
--- The ways stand in the order of the ports' places, and each port's way out is at the other end a way in, which the
+-- The ways are in the order of the ports' places, and each port's way out is at the other end a way in, which the
 -- peers name.
 pub record AreWiredWays (net : Topology) (opening : Stamp) (restamps capacity : ℕ) (ways : List (Channel Place)) (peers : List ℕ) : Type 0 where
   pub count : length ways ≡ way_count net

@@ -56,7 +56,7 @@ pub fn inboxes_of(
     Ok(inboxes)
 }
 
-// The ways out of a node come behind those of the nodes before it.
+// The ways out of a node come after those of the nodes before it.
 fn add_ways(
     alloc: Global,
     topology: &Topology,
@@ -117,7 +117,7 @@ fn port_back(topology: &Topology, u: u16, hop: &Hop) -> usize
     unreachable!()
 }
 
-// The peers of a node's ports come behind those of the nodes before it.
+// The peers of a node's ports come after those of the nodes before it.
 fn add_peers(
     topology: &Topology,
     u: u16,

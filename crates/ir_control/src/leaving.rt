@@ -16,7 +16,7 @@ use ir_links::{Remains, Sender, Taker, join};
 use ir_worker::{Ends, Node, Outcome, Parcel};
 use std::alloc::{AllocError, Global};
 
-// Brings the ends of each channel together: a taker's other end stands in the slot of its peer.
+// Brings the ends of each channel together: a taker's other end is in the slot of its peer.
 fn join_all(
     peers: &[usize],
     mut senders: Vec<Option<Sender<Parcel>>>,

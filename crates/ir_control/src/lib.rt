@@ -1,6 +1,6 @@
-//! A running net: its channels and parts, the injector, the controller, and the report at the end;
-//! and a live run of it, in which each node turns on a thread of its own while commands are carried
-//! out.
+//! A running net: its channels and parts, the injector, the controller, and the report at the end.
+//! Also a live run of it, in which each node turns on a thread of its own while commands are
+//! carried out.
 #![tactic(auto)]
 
 mod carrying;

@@ -21,7 +21,7 @@ pub enum LiveError {
     Spent = 1,
     #[error("a thread was not started")]
     NoThread = 2,
-    /// A growth was refused, in a worker too. A command's stands among the refusals.
+    /// A growth was refused, in a worker too. A command's is among the refusals.
     #[error("out of memory")]
     NoMemory = 3,
     /// The board has no place for a reader of each node.

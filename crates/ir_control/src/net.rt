@@ -156,9 +156,9 @@ impl Net {
 
     /// A net for an opening, whose epoch 1 has a plan of the opening's kind and root over all links.
     ///
-    /// Refused are, in this order: no node (`Empty`), a root that is no node, more than 1,024 nodes
-    /// or 8,192 links or another number out of its range (`TooLarge`), some node without a walk to
-    /// some node, want of memory. `Used` would say that a fresh cell of the registry refused its
+    /// Refused are, in this order: no node (`Empty`), a root that is no node, a number out of its
+    /// range (`TooLarge`), some node without a walk to some node, want of memory. There are at most
+    /// 1,024 nodes and 8,192 links. `Used` would say that a fresh cell of the registry refused its
     /// plan.
     pub fn open(
         rt: &(impl Threads + Sync),

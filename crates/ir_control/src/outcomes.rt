@@ -101,7 +101,7 @@ pub(crate) fn place_left<R: Wait>(
     }
 }
 
-/// Takes each outcome out of its slot, in order, and tells it in the report, which has room.
+/// Takes each outcome out of its slot, in order, and puts it into the report, which has room.
 pub(crate) fn told_in_order(mut slots: Vec<Option<Outcome>>, report: &mut Report)
     requires full { (k : ℕ) → k < length slots.items
         → (o : Outcome) × (slice_index_or slots.items k None ≡ Some o) }

@@ -131,16 +131,16 @@ fn reported<R: Wait, S: Starter, B: Wait + Drop>(
 }
 
 /// Starts a thread for each node of a net, which runs `serve_with_bells`, unless the starter says
-/// no; carries out the commands in order, where the injector learns of each install at once, and
-/// shows the starter the injector; then lets the nodes end, waits until each has come back, shows
-/// the starter each, and reports what came of each packet. A refused command stands among the
+/// no. Carries out the commands in order, where the injector learns of each install at once, and
+/// shows the starter the injector. Then lets the nodes end, waits until each has come back, shows
+/// the starter each, and reports what came of each packet. A refused command is among the
 /// refusals, and the run goes on. It lets the nodes end by the flag, which it sets. Where others
 /// set it before, nodes that do not sleep end sooner.
 ///
 /// A packet is refused for a full inbox only where the push of its inject was refused.
 ///
-/// Refused are: a net whose parts were handed out before (`Spent`), a board without a place for a
-/// reader of each node (`TooManyReaders`), a thread that was not started (`NoThread`), and want of
+/// Refused are: a net whose parts were handed out before (`Spent`), a board without a place for
+/// each node's reader (`TooManyReaders`), a thread that was not started (`NoThread`), and want of
 /// memory, a node's too. After any answer the net is spent.
 pub fn run_live<R: Threads + Moments<Parcel> + Looks<Parcel> + Sync, G: Gate, F: Flag, S: Starter>(
     rt: &R,

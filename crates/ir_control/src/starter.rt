@@ -20,7 +20,7 @@ pub trait Starter {
     // this node was shown as it came back
     ghost came_back: { Self → Node → Type 0 };
 
-    // this injector was shown behind the commands
+    // this injector was shown after the commands
     ghost was_closed: { Self → Injector → Type 0 };
 
     // the flag that lets the nodes of a run end was set

@@ -3,7 +3,7 @@ use Rattle.std.proofs.lemmas.Option.{same_Some, none-some}
 use Rattle.std.proofs.lemmas.List.{get_or-set_same, get_or-set_other}
 use Rattle.std.proofs.lemmas.Bool.{cases_eq}
 
--- what stands at a place after a write
+-- what is at a place after a write
 pub get_set : {X : Type 0} (xs : List X) (i j : ℕ) (y x : X) → slice_get (set xs i y) j ≡ Some x → ((j ≡ i) × (y ≡ x)) ⊎ ((j ≢ i) × (slice_get xs j ≡ Some x))
 get_set [] i j y x e = absurd (none-some x e)
 get_set (a ∷ xs) zero zero y x e = inl (refl, same_Some y x e)
@@ -27,7 +27,7 @@ get_set_other (a ∷ xs) zero (suc j) y h = refl
 get_set_other (a ∷ xs) (suc i) zero y h = refl
 get_set_other (a ∷ xs) (suc i) (suc j) y h = get_set_other xs i j y (λ e. h (ap suc e))
 
--- what stands at a place after a push
+-- what is at a place after a push
 pub get_push : {X : Type 0} (xs : List X) (j : ℕ) (y x : X) → slice_get (xs ++ y ∷ []) j ≡ Some x → ((j ≡ length xs) × (y ≡ x)) ⊎ ((j < length xs) × (slice_get xs j ≡ Some x))
 get_push [] zero y x e = inl (refl, same_Some y x e)
 get_push [] (suc j) y x e = absurd (none-some x e)

@@ -1,4 +1,4 @@
--- Marks of links in words: the mark that a shifted word tells, and what a changed word leaves.
+-- Marks of links in words: the mark that a shifted word gives, and what a changed word leaves.
 use Rattle.std.proofs.Common.{◌≡◌, ◌≢◌, ℕ, ◌-◌, ◌*◌, ◌/◌, ◌%◌, ◌^◌, ◌<◌, ◌≤◌, Bool, true, false, eqb, List, length, get_or, set, replicate, refl, sym, ap, subst, ◌∙◌, arith, lit<, ◌⊎◌, inl, inr}
 use Rattle.std.specs.Prelude.{bit_and, bit_or}
 use Rattle.std.specs.Int.{w64, bit_at, bit_not}
@@ -23,7 +23,7 @@ all_ones words h ones =
     ∙ ap (λ (b : ℕ). eqb b 1) (bit_at_ones WORD_LINKS (l % WORD_LINKS) (omega arith))
     ∙ sym (get_or-replicate MAX_LINKS l true true (omega (arith, n, h.0))))
 
--- the mark of a link, as a shift and a mask tell it
+-- the mark of a link, as a shift and a mask give it
 pub mark_read : (words : List ℕ) (l : ℕ) → AreWords words → l < MAX_LINKS → eqb (bit_and (get_or words (l / WORD_LINKS) 0 / 2 ^ (l % WORD_LINKS)) 1) 1 ≡ get_or (marks_in words) l true
 mark_read words l h lt =
     ap (λ (b : ℕ). eqb b 1) (shr_and_one (get_or words (l / WORD_LINKS) 0) (l % WORD_LINKS)) ∙ sym (get_or-marks_in words l true (omega (arith, h.0)))

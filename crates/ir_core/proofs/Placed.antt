@@ -136,11 +136,11 @@ module _ (o : Setting) (channels : List (List ℕ)) (records : List Record) (pla
 same_place : (u v : ℕ) (way other : Way) → Waits u way ≡ Waits v other → (u ≡ v) × (way ≡ other)
 same_place u v way other e = (cc, cc)
 
--- a packet stands in the channel of this way
+-- a packet is in the channel of this way
 abbrev pub Stands : Setting → List (List ℕ) → ℕ → ℕ → Way → Type 0
 Stands o channels id u way = (c : ℕ) × (k : ℕ) × (channel_of o u way ≡ Some c) × (slice_get (slice_index_or channels c []) k ≡ Some id)
 
--- what stood in a channel stands there after a put
+-- what was in a channel is there after a put
 put_keeps : (channels : List (List ℕ)) (c0 id c k j : ℕ) → c0 < length channels → slice_get (slice_index_or channels c []) k ≡ Some j →
     slice_get (slice_index_or (slice_set channels c0 (slice_index_or channels c0 [] ++ id ∷ [])) c []) k ≡ Some j
 put_keeps channels c0 id c k j c_in e = chosen (or_set channels c0 c (slice_index_or channels c0 [] ++ id ∷ []) [] c_in)

@@ -37,7 +37,7 @@ plain_verdict o s u way r limit none =
     ap (λ (x : Option ℕ). ruling_by o s u r.dest v x) (no_restamp v (board_at s (s.view u)).current (o.restamps - length r.restamps) (omega arith))
     ∙ ap (λ (stamp : ℕ). record { restamp = None; verdict = verdict_on o s u way stamp r.dest }) e
 
--- and no packet is told to be restamped
+-- and no packet has to be restamped
 pub never_restamped : (port : ℕ) (v : Verdict) → action_of 0 port v ≢ Restamp
 never_restamped port (CameByDown l) e = cc
 never_restamped port BelowFloor e = cc

@@ -29,8 +29,8 @@ abbrev pub after_ports : Setting → ℕ → List Hop → List Entry → List En
 after_ports setting u [] log = log
 after_ports setting u (hop ∷ hops) log = after_ports setting u hops (after_way setting u (Link hop.link) log)
 
--- A visit of a node: it reads the newest version, acts on what it holds, then takes from its inbox and acts, then from
--- each port's channel, in port order of the opening's topology, and acts.
+-- A visit of a node: it reads the newest version and acts on what it holds. Then it takes from its inbox and acts, then
+-- from each port's channel, in port order of the opening's topology, and acts.
 abbrev pub after_visit : Setting → ℕ → List Entry → List Entry
 after_visit setting u log = after_ports setting u (ports_of setting.topology u) (after_way setting u Inbox (after_act setting u (after_read setting u log)))
 

@@ -11,7 +11,7 @@ use Rattle.ir_core.specs.Board.{opening_board}
 use Rattle.ir_core.specs.Setting.{Setting, into}
 use Rattle.ir_core.specs.Entry.{Entry, DidInject, DidLearn, DidTake, DidRead, DidAct, DidChange, DidInstall, ruled, fresh}
 
--- What stands after a history. It is a list of entries, the latest first, and each notion is read off the entries
+-- What holds after a history. It is a list of entries, the latest first, and each notion is read off the entries
 -- that speak of it.
 
 -- the boards, oldest first: place k has version k

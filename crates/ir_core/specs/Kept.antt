@@ -5,7 +5,7 @@ use Rattle.ir_core.specs.declared.board.KeptBoard.TheInside.{Inside}
 use Rattle.ir_core.specs.declared.marks.TheConstants.{MARK_WORDS}
 use Rattle.ir_core.specs.Marks.{marks_in, with_rest_up, EndsDown}
 
--- the links behind its words are up
+-- the links after its words are up
 abbrev pub kept_board : Inside → Board
 kept_board k = record { version = k.version; current = k.epoch; floor = k.floor; up = marks_in (with_rest_up k.words.items) }
 

@@ -1,5 +1,5 @@
--- Ways over nodes of which some lack their row of a packet's epoch, as routers on many machines may: a node has its
--- whole row of the epoch's plan or none, this may change while the packet is under way, and it ends where it finds none.
+-- Ways over nodes of which some lack their row of a packet's epoch, as routers on many machines may. A node has its
+-- whole row of the epoch's plan or none. This may change while the packet is under way; it ends where it finds none.
 use Rattle.std.specs.Prelude.{◌≡◌, ◌≢◌, ℕ, ◌+◌, ◌-◌, ◌<◌, ◌⊎◌, Option, Some, None, List, [], ◌∷◌, length, IsSome}
 use mathlib.Core.List.{IsPrefix}
 use Rattle.ir_model.specs.declared.Hop.{Hop}

@@ -29,7 +29,7 @@ words_in marks = map (λ j. number_in (take WORD_LINKS (drop (WORD_LINKS * j) ma
 abbrev pub word_up : ℕ
 word_up = 2 ^ WORD_LINKS - 1
 
--- as many words as mark all links, where the links behind the given words are up
+-- as many words as mark all links, where the links after the given words are up
 abbrev pub with_rest_up : List ℕ → List ℕ
 with_rest_up words = words ++ replicate (MARK_WORDS - length words) word_up
 

@@ -35,7 +35,7 @@ pub record Sight : Type 0 where
   pub waiting : ℕ → List ℕ
   pub packet : ℕ → Option Record
 
--- what stands after a history
+-- what holds after a history
 abbrev pub sight_after : Setting → List Entry → Sight
 sight_after setting log = record {
   injected = history.injected log;
@@ -81,7 +81,7 @@ abbrev pub ruling_by : Setting → Sight → ℕ → ℕ → Verdict → Option 
 ruling_by setting s u dest v None = record { restamp = None; verdict = v }
 ruling_by setting s u dest v (Some e) = record { restamp = Some e; verdict = verdict_on setting s u Inbox e dest }
 
--- What u makes of a packet: it judges it by its present epoch, and restamps it with the current epoch of its board where
+-- What u makes of a packet: it judges it by its present epoch. It restamps it with the current epoch of its board where
 -- that one is retired and the packet has had fewer restamps than the network allows.
 abbrev pub ruling_on : Setting → Sight → ℕ → Way → Record → Ruling
 ruling_on setting s u way r =

@@ -20,7 +20,7 @@ pub record Setting : Type 0 where
   pub max_packets : ℕ
   pub restamps : ℕ
 
--- the plan that stands where there is none
+-- the plan that is where there is none
 abbrev pub no_plan : Plan
 no_plan = record { kind = Tree; root = 0; topology = record { links = []; ports = [] }; order = []; labels = []; table = []; rows = [] }
 
@@ -37,7 +37,7 @@ channel_into first u None = None
 channel_into first u (Some link) =
     if link.low == u then Some first else if link.high == u then Some (first + 1) else None
 
--- The number of the channel that a node takes from by this way, if there is one: the inboxes by node come first, then
+-- The number of the channel that a node takes from by this way, if there is one. The inboxes by node come first, then
 -- for each link the channel into its first end and the channel into its second.
 abbrev pub channel_in : Topology → ℕ → Way → Option ℕ
 channel_in topology u Inbox = Some u

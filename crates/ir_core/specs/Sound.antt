@@ -63,7 +63,7 @@ pub record IsSoundBy (IsPlanOf : ℕ → Plan → Type 0) (r : Record) : Type 0 
   pub of_epoch : IsPlanOf r.epoch plan
   pub sound : IsSound plan r
 
--- the epochs rise from segment to segment; the latest segment stands first
+-- the epochs rise from segment to segment; the latest segment is first
 abbrev pub AreRising : List Record → Type 0
 AreRising [] = Unit {0}
 AreRising (g ∷ []) = Unit {0}
@@ -80,9 +80,9 @@ abbrev pub ArePlaces : ℕ → List Restamp → Type 0
 ArePlaces n [] = Unit {0}
 ArePlaces n (s ∷ older) = (s.from < n) × ArePlaces s.from older
 
--- A record is sound by the plans of epochs: it has at most so many restamps, each at a place of its own in the hops. Its
--- hops are its segments joined end to end, each of which begins where the one before it ended; their epochs rise, and
--- each segment is sound by the plan of its epoch, the last of them with the record's fate.
+-- A record is sound by the plans of epochs: it has at most so many restamps, each at a place of its own in the hops.
+-- Its hops are its segments joined end to end, each of which begins where the one before it ended. Their epochs rise,
+-- and each segment is sound by the plan of its epoch, the last of them with the record's fate.
 pub record IsSoundRecord (most : ℕ) (IsPlanOf : ℕ → Plan → Type 0) (r : Record) : Type 0 where
   pub few : length r.restamps ≤ most
   pub places : ArePlaces (length r.hops) (reverse r.restamps)

@@ -126,8 +126,8 @@ IsNew r (InHand u Inbox) = r.restamps ≡ []
 IsNew r (InHand u (Link l)) = Unit {0}
 IsNew r Ended = Unit {0}
 
--- A packet's record is right: its segments follow the tables of their epochs, which rise, each restamp stands at a place
--- of its own, and its room is that of the network and of the restamps that are allowed.
+-- A packet's record is right: its segments follow the tables of their epochs, which rise, and each restamp is at a
+-- place of its own. Its room is that of the network and of the restamps that are allowed.
 pub record IsRoutedRecord (setting : Setting) (plans : List Plan) (r : Record) : Type 0 where
   pub few : length r.restamps ≤ setting.restamps
   pub places : ArePlaces (length r.hops) (reverse r.restamps)
@@ -141,7 +141,7 @@ pub record IsPacket (setting : Setting) (plans : List Plan) (r : Record) (place 
   pub fits : FitsPlace (plan_of setting plans (stamp_of r)) (present r) place
   pub is_new : IsNew r place
 
--- each packet stands in one place, at most once
+-- each packet is in one place, at most once
 pub record ArePlaced (setting : Setting) (plans : List Plan) (hands : List (Option Held)) (channels : List (List ℕ)) (records : List Record) (place : ℕ → Place) : Type 0 where
   pub each : (id : ℕ) (r : Record) → slice_get records id ≡ Some r → IsPacket setting plans r (place id)
   pub waiting : (c k id : ℕ) → slice_get (slice_index_or channels c []) k ≡ Some id →

@@ -132,8 +132,8 @@ impl Board {
     }
 
     /// Why an install over so many nodes, where so many epochs are used up, is refused before any
-    /// plan is made: the root is no node, no epoch is left, or the change is one too many, in this
-    /// order.
+    /// plan is made. The reasons are, in this order: the root is no node, no epoch is left, the
+    /// change is one too many.
     pub fn install_refusal(&self, nodes: usize, epochs: usize, root: u16) -> Option<Refused>
         ensures { result ≡ install_refused nodes epochs self.now root }
     {

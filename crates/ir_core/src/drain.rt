@@ -9,9 +9,9 @@ use crate::world::World;
 
 impl World {
     /// Rounds over the nodes 0 to n-1, until a round has no Act. In a round each node reads the newest version of the
-    /// board, acts on what it holds, then takes a packet from its inbox and acts, then from the channel of each port in
-    /// port order of the opening's topology and acts. After it no packet is under way. It takes no memory. Each round
-    /// takes O(n + m), for n nodes and m links, and each Act in it O(log k), for k starts of a row.
+    /// board and acts on what it holds. Then it takes a packet from its inbox and acts, then from the channel of each
+    /// port, in port order of the opening's topology, and acts. After it no packet is under way. It takes no memory.
+    /// Each round takes O(n + m), for n nodes and m links, and each Act in it O(log k), for k starts of a row.
     pub fn drain(&mut self)
         // For every history whose world this is, what it does is the drain of the definition.
         ensures history { (log : List Entry) → Shows log self.old → ShowsDrained log self.old.opening self.new }
@@ -28,7 +28,7 @@ impl World {
         }
     }
 
-    /// A round over all nodes; tells whether it had an Act.
+    /// A round over all nodes; returns whether it had an Act.
     fn round(&mut self) -> bool
         ensures moves { Moves (after_round self.old.opening) result self.old self.new }
         ensures quiet { result ≡ false → IsQuiet self.new }
@@ -42,7 +42,7 @@ impl World {
         acted
     }
 
-    /// A visit of a node; tells whether it had an Act.
+    /// A visit of a node; returns whether it had an Act.
     fn visit(&mut self, node: u16) -> bool
         requires { node < nodes_of self.old.opening }
         ensures moves { Moves (after_visit self.old.opening node) result self.old self.new }
@@ -75,7 +75,7 @@ impl World {
         acted
     }
 
-    /// A node takes the first packet of a channel, if there is one, and acts on it; tells whether it did.
+    /// A node takes the first packet of a channel, if there is one, and acts on it; returns whether it did.
     fn try_way(&mut self, node: u16, way: Way) -> bool
         requires node_in { node < nodes_of self.old.opening }
         requires channel { (c : ℕ) × (channel_of self.old.opening node way ≡ Some c) }
@@ -91,7 +91,7 @@ impl World {
         self.try_act(node)
     }
 
-    /// A node acts on what it holds, if it holds a packet; tells whether it did.
+    /// A node acts on what it holds, if it holds a packet; returns whether it did.
     fn try_act(&mut self, node: u16) -> bool
         requires node_in { node < nodes_of self.old.opening }
         requires view { IsUpToDate self.old node }

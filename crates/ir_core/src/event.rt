@@ -54,7 +54,7 @@ pub enum Reply {
     Viewed,
     /// The packet went on to this node.
     Sent(u32, u16),
-    /// The packet was delivered or dropped; its record tells which.
+    /// The packet was delivered or dropped; its record says which.
     Settled(u32),
     Installed(u32),
     Changed,

@@ -15,9 +15,9 @@ ghost use Rattle.ir_model.specs.declared.Kind.{Kind, TheVariants.Tree};
 ghost use Rattle.ir_plan.specs.{declared.tour.LabelOrder.LabelOrder, Starts.HaveSameTable};
 
 /// A law of the definitions: a network that allows no restamp reads as one that knows of none. What
-/// a node makes of a packet of one epoch is the verdict by that epoch; so an Act after a history
+/// a node makes of a packet of one epoch is the verdict by that epoch. So an Act after a history
 /// without restamps comes to that verdict, with no restamp, and leaves in the record what the
-/// verdict leaves. With no restamp left, no packet is told to be restamped.
+/// verdict leaves. With no restamp left, no packet has to be restamped.
 pub fn without_restamps()
     ensures verdict { (setting : Setting) (s : Sight) (u : ℕ) (way : Way) (r : Record)
         → IsPlainVerdict setting s u way r }

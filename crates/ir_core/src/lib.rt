@@ -1,7 +1,7 @@
 //! The pure core of the network: events and their replies, commands of a live run, boards, the records of packets, and
 //! runs of events.
 //!
-//! A history is a list of accepted events, each with what came of it. `specs/` defines what stands after a history
+//! A history is a list of accepted events, each with what came of it. `specs/` defines what holds after a history
 //! and what each event comes to; `World` keeps it, `apply` does one event, `drain` a whole drain, and `play` a list.
 #![tactic(auto)]
 

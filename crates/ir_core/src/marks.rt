@@ -92,7 +92,7 @@ impl Marks {
         self.words[..count].to_vec(alloc)
     }
 
-    /// The marks in these words, where the links behind them are up.
+    /// The marks in these words, where the links after them are up.
     pub fn from_words(words: &[u64]) -> Marks
         requires { length words.now ≤ MARK_WORDS }
         ensures { result ≡ marks_in (with_rest_up words.now) }

@@ -10,8 +10,9 @@ use ir_tables::Topology;
 use std::alloc::{AllocError, Global};
 
 /// What a world or a net is opened with: a topology, the order in which each epoch's plan is
-/// labelled, the kind and root of epoch 1's plan, the capacity of each channel and inbox, from 1 to
-/// 1,024 packets, the most packets, from 1 to 4,096, and the most restamps of a packet, from 0 to
+/// labelled, and the kind and root of epoch 1's plan. Further the capacity of each channel and
+/// inbox, from 1 to 1,024 packets, the most packets, from 1 to 4,096, and the most restamps of a
+/// packet, from 0 to 3.
 /// 3. The topology has at most 1,024 nodes and 8,192 links.
 #[derive(Drop)]
 pub struct Opening {

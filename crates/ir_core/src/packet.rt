@@ -29,8 +29,8 @@ pub struct Restamp {
     pub from: usize,
 }
 
-/// The most hops of a packet of a network that allows it so many restamps, with so many nodes: a
-/// walk of each epoch, each but the first from the last hop of the one before.
+/// The most hops of a packet of a network with so many nodes that allows it so many restamps. They
+/// are a walk of each epoch, each but the first from the last hop of the one before.
 pub fn hop_room(restamps: u8, nodes: u16) -> usize
     ensures { result ≡ hop_room restamps nodes }
 {
@@ -144,9 +144,9 @@ impl Record {
         self.dest
     }
 
-    /// What an Act of a node leaves in the packet's record: the node as a hop, unless the packet
-    /// was taken from the inbox or dropped by the first two lines of the verdict; the restamp, if
-    /// it was restamped; and the verdict's fate.
+    /// What an Act of a node leaves in the packet's record: the node as a hop, the restamp if it
+    /// was restamped, and the verdict's fate. There is no hop where the packet was taken from the
+    /// inbox, or dropped by the first two lines of the verdict.
     pub fn act(&mut self, node: u16, way: Way, ruling: Ruling)
         requires hops { HasRoomHere way self.old }
         requires restamps { (e : ℕ) → ruling.restamp ≡ Some e → length self.old.restamps < MAX_RESTAMPS }

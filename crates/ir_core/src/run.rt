@@ -16,13 +16,13 @@ pub struct Played {
 
 /// Opens a world and plays all steps, the refused ones among them. Each reply is what the
 /// definition of its event says of the accepted events before it, or its first refusal. The records
-/// are those of the history, and each is sound: its hops are one segment more than it has restamps,
-/// at most as many as the opening allows, joined end to end; their epochs rise, and each is a
-/// prefix of the walk to the packet's destination that the full table of its one epoch prescribes.
-/// The last one is all of it where the packet was delivered, and then over the distance from where
-/// the segment began where the epoch's kind is Shortest or Compact; a drop names the cause that
-/// held. Where the opening allows no restamp, no Act has one, and each record is of one epoch.
-/// Plans are made on the thread that calls. Refused as `World::open` is. Takes as long as
+/// are those of the history, and each is sound. Its hops are one segment more than it has restamps,
+/// at most as many as the opening allows, joined end to end. The epochs of segments rise, and each
+/// is a prefix of the walk to the packet's destination that the full table of its one epoch
+/// prescribes. The last one is all of it where the packet was delivered. Where the epoch's kind is
+/// Shortest or Compact, it is then over the distance from where the segment began. A drop names the
+/// cause that held. Where the opening allows no restamp, no Act has one, and each record is of one
+/// epoch. Plans are made on the thread that calls. Refused as `World::open` is. Takes as long as
 /// `World::open`, and for each step as long as `World::apply` or `World::drain`. For users of the
 /// library.
 pub fn play(alloc: Global, opening: Opening, steps: &[Step]) -> Result<Played, OpenError>

@@ -34,8 +34,8 @@ pub fn judge(plan: &Plan, board: &Board, way: Way, at: u16, stamp: u32, address:
 
 /// Decides what a node does with a packet that it took from its inbox (`None`) or by a link. It is given the plan of
 /// the packet's stamp and the board of the node's view. The first of these holds: the packet came by a link that is
-/// down; its epoch is retired; it has arrived, by its address; its next link is down; else it is sent over a port.
-/// A packet of a retired epoch is restamped while `left` is above 0. The caller then records the node as a hop, if the
+/// down; its epoch is retired; it has arrived, by its address; its next link is down. Else it is sent over a port. A
+/// packet of a retired epoch is restamped while `left` is above 0. The caller then records the node as a hop, if the
 /// packet came by a link, and takes the board's current epoch and the destination's label in it. It decides again over
 /// the same board. Whether the channel of the port has room is not asked. `at` is a node and `address` a label of the
 /// plan. Takes O(log k), for k starts of the row. For users of the library.

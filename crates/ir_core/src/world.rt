@@ -23,7 +23,7 @@ use ir_tables::Topology;
 use std::alloc::{AllocError, Global};
 use std::marker::Model;
 
-/// All that stands after a history: the boards and plans so far, each node's view and hand, the channels, and the
+/// All that holds after a history: the boards and plans so far, each node's view and hand, the channels, and the
 /// packets' records.
 ///
 /// A packet from node 0 to node 2 of a network; a drain carries it to its end:
@@ -85,9 +85,9 @@ impl World {
 
     /// The world of the empty history. Epoch 1 has a plan of the opening's kind and root over all
     /// links of the topology, made on the thread that calls. Refused are, in this order: no node
-    /// (`Empty`), a root that is no node, more than 1,024 nodes or 8,192 links or another number
-    /// out of its range (`TooLarge`), some node without a walk to some node, want of memory. Takes
-    /// as long as the plan. For users of the library.
+    /// (`Empty`), a root that is no node, a number out of its range (`TooLarge`), some node without
+    /// a walk to some node, want of memory. There are at most 1,024 nodes and 8,192 links. Takes as
+    /// long as the plan. For users of the library.
     pub fn open(alloc: Global, opening: Opening) -> Result<World, OpenError>
         ensures opened { IfOk result (λ w. IsOpenedWith opening w.opening) }
         ensures history { IfOk result (λ w. Shows [] w) }

@@ -18,7 +18,7 @@ one_more row start count d are inside less =
     }
 
 module _ (row : List Lead) (up : AscendByStart row) (start place : ℕ) (cut : EndsLower row start place) where
-  -- none but that behind the cut is this one
+  -- none but that after the cut is this one
   apart : (k : ℕ) → k < length row → k ≢ place → get_or (lead_starts row) k 0 ≢ start
   apart k h ne =
       elim (cases_lt k place) [

@@ -5,7 +5,7 @@ use Rattle.std.proofs.lemmas.List.Kept.{AllPairs-from_increasing}
 use Rattle.ir_diff.specs.declared.changes.Lead.{Lead}
 use Rattle.ir_diff.specs.Changes.{lead_starts, AscendByStart}
 
--- no start, to stand past the end
+-- no start, to be past the end
 abbrev pub none : Lead
 none = record { start = 0; node = 0 }
 

@@ -97,11 +97,11 @@ fn put_of(alloc: Global, old: &[Lead], new: &[Lead]) -> Result<Vec<Lead>, AllocE
     Ok(put)
 }
 
-/// What a node changes whose row becomes another one, both by ascending starts: removed are the
-/// starts that the new row has not, and put are those that the old one has not with that node. The
-/// old row with them is the new row and no other, and whatever else makes the new row of it removes
-/// and puts no fewer; where the rows are the same there are none. It is refused for memory alone.
-/// Takes O(k), for k starts of both rows. For users of the library.
+/// What a node changes whose row becomes another one, both by ascending starts. Removed are the
+/// starts that the new row does not have; put are those that the old one does not have with that
+/// node. The old row with them is the new row and no other, and whatever else makes the new row of
+/// it removes and puts no fewer; where the rows are the same there are none. It is refused for
+/// memory alone. Takes O(k), for k starts of both rows. For users of the library.
 pub fn changes_of(alloc: Global, old: &[Lead], new: &[Lead]) -> Result<Changes, AllocError>
     requires old { AscendByStart old.now }
     requires new { AscendByStart new.now }

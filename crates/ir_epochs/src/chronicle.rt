@@ -187,7 +187,7 @@ impl Chronicle {
         (Chronicle { head, pen }, front)
     }
 
-    /// The list with one more entry behind all that was seen, by the pen of that entry.
+    /// The list with one more entry after all that was seen, by the pen of that entry.
     pub(crate) fn record<R: Wait>(
         &mut self,
         rt: &R,

@@ -191,7 +191,7 @@ impl<R: Wait + Drop> BoardWriter<R> {
     // A board that was just opened, with places for so many readers, of which there is one at least.
     //
     // The opening is published twice. From then on the list of operations has room for two, whatever the size of a
-    // board, and it never holds more: it keeps the last one, which the other copy lacks, and takes in the next.
+    // board, and it never holds more. It keeps the last one, which the other copy lacks, and takes in the next.
     pub(crate) fn open(
         rt: R,
         alloc: Global,
@@ -276,8 +276,8 @@ impl<R: Wait + Drop> BoardWriter<R> {
         &self.writer.published().front
     }
 
-    /// Sees that all that a reader of this board knows was published, and nothing else comes of it: who has the pen of
-    /// the next entry, as the writer does, knows that no list is longer than what it published.
+    /// Learns that all that a reader of this board knows was published; it does nothing else. Who has the pen of the
+    /// next entry, as the writer does, knows that no list is longer than what it published.
     pub fn leads(&mut self, reader: &BoardReader)
         requires { reader_board reader.now ≡ writer_board self.old }
         ensures led { IsPrefix (known reader.now) (published self.old) }

@@ -10,7 +10,7 @@ use crate::handles::enter;
 use crate::published::Published;
 use crate::seats::Sitting;
 
-/// A runtime with a word for each look at a board: so a contract can say that a reader looked while its caller had this
+/// A runtime with a word for each look at a board. So a contract can say that a reader looked while its caller had this
 /// in hand, and not only that it knows no less than before. Each type is one.
 pub trait Looks<X> {
     // Who had this in hand looked at this board, by a reader that knew the first list. It then knows the second.

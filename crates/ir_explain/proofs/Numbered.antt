@@ -1,4 +1,4 @@
--- The lines of a text, one behind the other.
+-- The lines of a text, one after the other.
 use Rattle.std.proofs.Common.{◌≡◌, ℕ, zero, suc, ◌+◌, ◌<◌, ◌≤◌, List, [], ◌∷◌, drop, length, slice_index_or, refl, sym, ap, subst, ◌∙◌, arith}
 use Rattle.ir_model.specs.Text.{lines}
 use Rattle.ir_explain.specs.Lines.{line_numbered}
@@ -18,7 +18,7 @@ none_at (l ∷ ls) zero n h le = absurd (omega (arith, ap length h))
 none_at (l ∷ ls) (suc k) zero h le = absurd (omega (arith, le))
 none_at (l ∷ ls) (suc k) (suc n) h le = none_at ls k n h (omega (arith, le))
 
--- the rest of a text is its lines behind so many, and this is the last of those
+-- the rest of a text is its lines after so many, and this is the last of those
 abbrev pub IsLineBefore : List ℕ → ℕ → List ℕ → List ℕ → Type 0
 IsLineBefore text k found rest = (lines rest ≡ drop k (lines text)) × (found ≡ line_numbered text k)
 

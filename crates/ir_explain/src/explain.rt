@@ -169,10 +169,10 @@ fn push_explanation(
     Ok(())
 }
 
-/// The explanation of a run: a line `route: ..` for each refused step, for why it ended and for what
-/// a check found, for a topology that looks like another format, and for a packet of a simulation
-/// whose install was not learnt. `given` has what was read of the inputs, in their order. Refused
-/// for want of memory alone. For users of the library.
+/// The explanation of a run: a line `route: ..` for each refused step, for why it ended and for
+/// what a check found. There is also one for a topology that looks like another format, and for a
+/// packet of a simulation whose install was not learnt. `given` has what was read of the inputs, in
+/// their order. Refused for want of memory alone. For users of the library.
 pub fn explanation(
     alloc: Global,
     words: &Words,

@@ -71,7 +71,7 @@ fn convertible(text: &[u8]) -> &'static str {
 }
 
 /// What lines that were seen to be this, read in this format, look like: another format, and the word by which it is
-/// converted, or else a note on them; nothing where they look like their own.
+/// converted, or else a note on them. Nothing, where they look like their own.
 fn likeness(seen: Seen, format: Format) -> (&'static str, Option<&'static str>) {
     match format {
         _ if seen.is_gml => ("GML", Some("")),

@@ -1,4 +1,4 @@
-//! The texts of a run, and the files that they stand in.
+//! The texts of a run, and the files that they are in.
 
 use crate::lines::line_ends;
 use ir_cli::{Source, Sub, Words, cut, read_topology};
@@ -28,7 +28,7 @@ pub struct Given<'a> {
     pub trouble: Trouble,
 }
 
-/// A text of a run: its file, how many lines of the file stand above it, and its bytes.
+/// A text of a run: its file, how many lines of the file are above it, and its bytes.
 #[derive(Clone, Copy)]
 pub struct GivenText<'a> {
     pub file: &'a str,
@@ -72,7 +72,7 @@ fn whole<'a>(given: &[Given<'a>], place: usize, file: &'a str) -> GivenText<'a> 
     }
 }
 
-/// What the line `%%` cuts a text into: what stands above it, and what stands below.
+/// What the line `%%` cuts a text into: what is above it, and what is below.
 fn halves<'a>(part: GivenText<'a>) -> (GivenText<'a>, GivenText<'a>) {
     let (bytes, below) = cut(part.bytes);
     let above = line_ends(part.bytes).saturating_sub(line_ends(below));

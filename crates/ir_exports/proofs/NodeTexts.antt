@@ -75,7 +75,7 @@ module _ (is_disjoint : Bool) (nodes : List Name) (s : Plan) where
       let long : one.lines ≤ length (string_bytes one.text) = omega (arith, node_long nodes s u first.table, first.count, ap length first.whole) in
       All-cons (λ (node : NodeText). node.lines ≤ length (string_bytes node.text)) one made long (texts_short (u + 1) k made zipped.1)
 
-  -- behind a text stand the lines of all nodes
+  -- after a text come the lines of all nodes
   pub texts_written : (k lines : ℕ) (made : List NodeText) (before after : List ℕ)
       → AreNodeTexts is_disjoint nodes s k made
       → lines ≡ sum_by lines_of made → after ≡ before ++ flat_map bytes_of made → AreWritten is_disjoint nodes s k lines before after

@@ -11,7 +11,7 @@ use Rattle.ir_prefix.specs.Ranges.{TellsPorts}
 use Rattle.ir_show.proofs.PlanLines.{range_more}
 use Rattle.ir_exports.proofs.NodePorts.{row_port_in}
 
--- the ports of ranges that tell the ports of a node lead somewhere
+-- the ports of ranges that give the ports of a node lead somewhere
 pub range_ports_in : (s : Plan) → IsPlan s → (u : ℕ) (set : List LabelRange) → u < node_count s.topology → TellsPorts (by_label s u) set
     → All (λ (r : LabelRange). r.port < length (ports_of s.topology u)) set
 range_ports_in s is u set u_in tells = λ k d inside.

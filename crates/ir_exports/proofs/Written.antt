@@ -20,7 +20,7 @@ two x a b = sym (append_assoc x a b)
 pub three : (x a b c : List ℕ) → x ++ (a ++ b ++ c) ≡ x ++ a ++ b ++ c
 three x a b c = two x (a ++ b) c ∙ ap (λ (t : List ℕ). t ++ c) (two x a b)
 
--- pieces that are written one after the other, behind those before
+-- pieces that are written one after the other, after those before
 pub six : (t0 t1 t2 t3 t4 t5 a b c d e f : List ℕ) → t1 ≡ t0 ++ a → t2 ≡ t1 ++ b → t3 ≡ t2 ++ c → t4 ≡ t3 ++ d → t5 ≡ t4 ++ e → t5 ++ f ≡ t0 ++ (a ++ b ++ c ++ d ++ e ++ f)
 six t0 t1 t2 t3 t4 t5 a b c d e f is_a is_b is_c is_d is_e =
     let two = followed t0 a b t1 t2 is_a is_b in

@@ -1,4 +1,4 @@
--- What is written round the circle of n labels, by half cells clockwise from its top: label d has the two behind 2 d.
+-- What is written round the circle of n labels, by half cells clockwise from its top: label d has the two after 2 d.
 use Rattle.std.specs.Prelude.{ℕ, ◌+◌, ◌-◌, ◌*◌, ◌/◌, ◌%◌, Bool, ◌==◌, if◌then◌else◌, nat_le, List, [], ◌++◌, length, flat_map, decimal, codes, false, true}
 use Rattle.std.specs.List.{range_with_len}
 use Rattle.ir_model.specs.Graph.{Name}
@@ -18,7 +18,7 @@ abbrev pub angle : ℕ → ℕ → List ℕ
 angle n h = degrees (180000 * h / n)
 
 -- A text at h half cells, up to the number of its place on the line from the middle. On the left half it is turned by 180
--- degrees less, and its place has a minus, so that no text stands on its head.
+-- degrees less, and its place has a minus, so that no text is upside down.
 abbrev pub spoke : ℕ → ℕ → List ℕ
 spoke n h =
     if nat_le h n then codes "<text transform=\"rotate(" ++ angle n h ++ codes ")\" y=\"4\" x=\""

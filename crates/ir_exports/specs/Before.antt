@@ -15,7 +15,7 @@ pub record AreBelow (row : List Start) (label count : ℕ) : Type 0 where
   pub below : (k : ℕ) → k < count → slice_index (labels row) k < label
   pub others : (k : ℕ) → count ≤ k → k < length row → label ≤ slice_index (labels row) k
 
--- Behind a text stand the lines of the first so many nodes, this many in all.
+-- After a text come the lines of the first so many nodes, this many in all.
 pub record AreWritten (is_disjoint : Bool) (nodes : List Name) (plan : Plan) (count lines : ℕ) (before after : List ℕ) : Type 0 where
   pub tables : List (List TableLine)
   pub every : length tables ≡ count

@@ -1,4 +1,4 @@
--- Names as they stand in XML.
+-- Names as they are in XML.
 use Rattle.std.specs.Prelude.{ℕ, ◌==◌, if◌then◌else◌, nat_lt, List, [], ◌∷◌, ◌++◌, length, take, flat_map, codes}
 use Rattle.ir_model.specs.Graph.{Name}
 

@@ -21,7 +21,7 @@ node_of_ring nodes plan u d =
     codes "  " ++ quoted (name_at nodes (node_in plan d)) ++ codes " [label=\"" ++ escaped (name_at nodes (node_in plan d)) ++ codes "\\n" ++ decimal d
     ++ codes "\", fillcolor=\"" ++ paint (table_port plan u (node_in plan d)) ++ codes "\"];\n"
 
--- the label behind d
+-- the label after d
 abbrev pub label_behind : ℕ → ℕ → ℕ
 label_behind n d = if d + 1 == n then 0 else d + 1
 

@@ -26,7 +26,7 @@ abbrev pub GoesThrough : Plan → ℕ → (ℕ → List TableLine) → ℕ → �
 GoesThrough plan bits lines x u [] = Unit {0}
 GoesThrough plan bits lines x u (v ∷ rest) = IsSentOn plan bits lines x u v × GoesThrough plan bits lines x v rest
 
--- behind these nodes it goes on to no node
+-- after these nodes it goes on to no node
 abbrev pub EndsAfter : Plan → ℕ → (ℕ → List TableLine) → ℕ → ℕ → List ℕ → Type 0
 EndsAfter plan bits lines x u [] = (v : ℕ) → IsSentOn plan bits lines x u v → ⊥
 EndsAfter plan bits lines x u (v ∷ rest) = EndsAfter plan bits lines x v rest

@@ -23,7 +23,7 @@ pub fn disjoint_lines_keep_to_walks()
 {}
 
 /// Where each node has all of its lines, disjoint or not, what is sent to a label goes all the way to the node with
-/// that label; where they are not disjoint, what is sent to a number beyond the labels goes all the way to the node
+/// that label. Where they are not disjoint, what is sent to a number beyond the labels goes all the way to the node
 /// with the last one.
 pub fn lines_go_all_the_way()
     ensures labels { (is_disjoint : Bool) (plan : Plan) (bits : ℕ) (tables : List (List TableLine)) → IsPlan plan

@@ -1,6 +1,6 @@
-//! What other programs read of a plan: the forwarding tables of its nodes and where what is sent by
-//! them goes, their ranges of labels, the lines of a node's row, the order of the labels, and the
-//! circle of labels with the intervals of a node.
+//! What other programs read of a plan: the forwarding tables of its nodes, and where what is sent
+//! by them goes. Further their ranges of labels, the lines of a node's row, the order of the
+//! labels, and the circle of labels with the intervals of a node.
 #![tactic(auto)]
 
 mod circle;

@@ -14,8 +14,8 @@ use ir_show::plan_text::kind_text;
 use ir_trace::text::{name_of, push_name, push_next_number, push_word};
 use std::alloc::{AllocError, Global};
 
-/// Writes a line of a node: its prefix, and the neighbour at its port. Where there is no port `#` stands, which no name
-/// holds.
+/// Writes a line of a node: its prefix, and the neighbour at its port. Where there is no port it writes `#`, which no
+/// name holds.
 fn push_entry(text: &mut String, graph: &Graph, plan: &Plan, u: u16, line: &TableLine) -> TextResult
     requires nodes { node_count plan.now.topology ≡ length graph.now }
     requires plan { IsPlan plan.now }

@@ -15,7 +15,7 @@ const LEAST_NODES: usize = 16;
 
 /// The text of the forwarding tables of a plan's nodes: `prefixes KIND N BITS LINES`, and for each node its name, its
 /// label and its lines, each as `VALUE/LENGTH` and the neighbour, or `-` where the numbers are unreachable. They are
-/// those of `table_of`, so the text is determined up to which of several lists of the fewest lines stand there.
+/// those of `table_of`, so the text is determined up to which of several lists of the fewest lines are there.
 /// Condition: the plan is over the graph's network. It is refused for memory alone. Takes O(n * n log n), for n nodes.
 /// For users of the library.
 pub fn prefixes_text(

@@ -7,7 +7,7 @@ use Rattle.ir_show.specs.StatsText.{IsEarlier}
 use Rattle.ir_figures.specs.declared.most.Most.{Most}
 use Rattle.ir_figures.specs.Compactness.{intervals_at, HasPortNumber, IsMostBefore, AreMostBefore}
 
--- what stands before the next port stands before this one, or is this one
+-- what is before the next port is before this one, or is this one
 split : (v q u p : ℕ) → IsEarlier v q u (p + 1) → IsEarlier v q u p ⊎ ((v ≡ u) × (q ≡ p))
 split v q u p (inl less) = inl (inl less)
 split v q u p (inr same) = elim (cases_eq q p) [
@@ -56,7 +56,7 @@ most_stays s u p count most is less so_far = record {
   first = so_far.first;
 }
 
--- what stands before the ports of the next node stands before the end of this one's
+-- what is before the ports of the next node is before the end of this one's
 within : (s : Plan) (v q u p : ℕ) → p ≡ length (ports_of s.topology u) → HasPortNumber s v q → IsEarlier v q (u + 1) 0 → IsEarlier v q u p
 within s v q u p end there (inl less) = elim (cases_eq v u) [
   | inl e ↦ inr (e, omega (arith, end, there.1, ap (λ (x : ℕ). length (ports_of s.topology x)) e))

@@ -1,4 +1,4 @@
--- The directed links of a plan's network, one behind the other.
+-- The directed links of a plan's network, one after the other.
 use Rattle.std.proofs.Common.{◌≡◌, ℕ, ◌+◌, ◌<◌, Bool, List, [], ◌∷◌, ◌++◌, length, Some, refl, ap, sym, ◌∙◌, subst, inl, inr, arith, length-append}
 use Rattle.std.proofs.lemmas.Bool.{cases_lt}
 use Rattle.std.proofs.lemmas.List.{get_or_push, get_or_append_left}
@@ -17,7 +17,7 @@ one_link net u p v r hu hv hp hr e =
     (same, omega (arith, e, ap (exits_before net) same))
 
 module _ (net : Topology) (waits : ℕ → ℕ → ℕ → ℕ → Type 0) where
-  -- what is told of a link's place stays where the lists grow
+  -- what is said of a link's place stays where the lists grow
   exit_kept : (blocks : List ℕ) (marks : List (List Bool)) (block : ℕ) (row : List Bool) (v r c : ℕ) → c < length blocks → c < length marks → IsExitAt net waits blocks marks v r c → IsExitAt net waits (blocks ++ block ∷ []) (marks ++ row ∷ []) v r c
   exit_kept blocks marks block row v r c a b old = record {
     hop = old.hop;

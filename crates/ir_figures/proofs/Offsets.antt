@@ -18,7 +18,7 @@ use Rattle.ir_figures.specs.Exits.{exits_before, AreExits, AreNextExits}
 pub hop_at : (net : Topology) (u p : ℕ) → p < length (ports_of net u) → (hop : Hop) × (port_at net u p ≡ Some hop)
 hop_at net u p lt = (get_or (ports_of net u) p past, slice_get-get_or (ports_of net u) p past lt)
 
--- the node behind a port
+-- the node beyond a port
 behind : (net : Topology) (u p : ℕ) → p < length (ports_of net u) → slice_index (neighbors_of net u) p ≡ (get_or (ports_of net u) p past).node
 behind net u p lt = get_or-map (λ (hop : Hop). hop.node) (ports_of net u) p past 0 lt
 

@@ -74,7 +74,7 @@ module _ (net : Topology) (ok : IsTopology net) (first nodes : List ℕ) (exits 
         subst (IsExitAt net waits blocks marks (slice_index nodes c) (port_of c)) (number c lt)
         (links.each (slice_index nodes c) (port_of c) (exits.node c lt) (port_in c lt) (omega (arith, number c lt, lt, exits.all)))
 
-    -- the node behind a link
+    -- the node beyond a link
     next_in : (c : ℕ) (lt : c < length nodes) → (exit c lt).hop.node < node_count net
     next_in c lt = (port_facts net ok (slice_index nodes c) (port_of c) (exit c lt).hop (exit c lt).leads).to
 

@@ -69,11 +69,11 @@ rows_by net kind root p lines is rows =
     subst (λ (n : Topology). AreBothRows n root kind lines) is.over
     (subst (λ (r : ℕ). AreBothRows p.topology r kind lines) is.labelled.1 (subst (λ (k : Kind). AreBothRows p.topology p.root k lines) is.of_kind rows))
 
--- two texts, one written behind the other
+-- two texts, one written after the other
 pub more_words : (old first second a b : List ℕ) → a ≡ old ++ first → b ≡ a ++ second → b ≡ old ++ (first ++ second)
 more_words old first second a b one two = rw (two, one) (append_assoc old first second)
 
--- the texts of a comparison, one written behind the other
+-- the texts of a comparison, one written after the other
 pub whole_text : (a b c d e f g head columns one two three four tables : List ℕ) → a ≡ [] → b ≡ (a ++ head) ++ columns → c ≡ b ++ one → d ≡ c ++ two → e ≡ d ++ three → f ≡ e ++ four → g ≡ f ++ tables
     → g ≡ (((((head ++ columns) ++ one) ++ two) ++ three) ++ four) ++ tables
 whole_text a b c d e f g head columns one two three four tables p q r s t u v = rw (v, u, t, s, r, q, p) refl

@@ -14,7 +14,7 @@ width_of marks c = length (slice_index_or marks c [])
 abbrev pub IsArcMarked : List (List Bool) → ℕ → ℕ → Type 0
 IsArcMarked marks c q = slice_index_or (slice_index_or marks c []) q false ≡ true
 
--- an arc leads from c to d: d stands in the block of c, and is marked there
+-- an arc leads from c to d: d is in the block of c, and is marked there
 pub record IsArc (first : List ℕ) (marks : List (List Bool)) (c d : ℕ) : Type 0 where
   pub place : ℕ
   pub within : place < width_of marks c

@@ -28,14 +28,14 @@ labels_word Shortest order = order_word order
 labels_word Compact order = order_word order
 labels_word (Landmark t) order = codes "blocks"
 
--- the word of a kind, with the stretch behind that of landmark plans
+-- the word of a kind, with the stretch after that of landmark plans
 abbrev pub compared_kind : Kind → List ℕ
 compared_kind Tree = kind_text Tree
 compared_kind Shortest = kind_text Shortest
 compared_kind Compact = kind_text Compact
 compared_kind (Landmark t) = codes "landmark-" ++ decimal t.stretch
 
--- what is not told
+-- what is not given
 abbrev pub dash : List ℕ
 dash = codes "-"
 
@@ -115,7 +115,7 @@ column_names =
     codes "kind" ∷ codes "numbering" ∷ codes "intervals" ∷ codes "greatest-row" ∷ codes "bits" ∷ codes "mean-stretch" ∷ codes "worst-stretch"
     ∷ codes "dependencies" ∷ []
 
--- the row of full tables, of which the bits alone are told
+-- the row of full tables, of which the bits alone are reported
 abbrev pub table_words : ℕ → List (List ℕ)
 table_words tables = codes "tables" ∷ dash ∷ dash ∷ dash ∷ decimal tables ∷ dash ∷ dash ∷ dash ∷ []
 

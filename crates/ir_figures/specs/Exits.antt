@@ -1,4 +1,4 @@
--- The directed links of a network in a row: those that leave a node stand by port, behind those of the nodes before it.
+-- The directed links of a network in a row: those that leave a node by port, after those of the nodes before it.
 use Rattle.std.specs.Prelude.{◌≡◌, ℕ, ◌+◌, ◌<◌, ◌≤◌, ◌⊎◌, Bool, true, Option, Some, List, [], ◌++◌, replicate, length, take, sum_by, slice_index, slice_index_or, None, false}
 use Rattle.ir_model.specs.declared.Hop.{Hop}
 use Rattle.ir_model.specs.Topology.{Topology, node_count, ports_of, port_at}
@@ -51,7 +51,7 @@ module _ (topology : Topology) (waits : ℕ → ℕ → ℕ → ℕ → Type 0) 
     pub each : (v r : ℕ) → v < node_count topology → r < length (ports_of topology v) → exits_before topology v + r < count
         → IsExitAt blocks marks v r (exits_before topology v + r)
 
--- the node u stands behind the others, so many times
+-- the node u follows the others, so many times
 abbrev pub AreNextExits : List ℕ → ℕ → ℕ → List ℕ → Type 0
 AreNextExits old u count new = new ≡ old ++ replicate count u
 

@@ -15,7 +15,7 @@ use Rattle.ir_figures.specs.Compactness.{AreMost}
 use Rattle.ir_figures.specs.RowBits.{AreBitsBefore}
 use Rattle.ir_figures.specs.Waits.{Waits, WaitsInEither, IsWithoutRing, IsWaitingRing}
 
--- the node behind a port
+-- the node beyond a port
 abbrev pub behind : Topology → ℕ → ℕ → ℕ
 behind topology u p = option_map_or (λ hop. hop.node) (port_at topology u p) 0
 
@@ -46,7 +46,7 @@ abbrev pub IsRingOf : (ℕ → ℕ → ℕ → ℕ → Type 0) → Option (List 
 IsRingOf waits None = IsWithoutRing waits
 IsRingOf waits (Some ring) = (ports : List ℕ) × IsWaitingRing waits ring ports
 
--- The text has the figures of a plan, and behind them those of the field.
+-- The text has the figures of a plan, and after them those of the field.
 pub record AreFiguresOf (nodes : List Name) (plan : Plan) (text : List ℕ) : Type 0 where
   pub figures : List ℕ
   pub stats : IsStatsOf nodes plan figures
@@ -63,7 +63,7 @@ pub record AreFiguresOf (nodes : List Name) (plan : Plan) (text : List ℕ) : Ty
       text
       ≡ (((figures ++ most_line nodes plan most) ++ bits_line rows tables) ++ ring_line (codes "dependencies") nodes ring) ++ landmarks_text nodes plan.kind landmarks
 
--- The text has all figures of a plan, and behind them whether links wait for each other in a ring while packets of a second
+-- The text has all figures of a plan, and after them whether links wait for each other in a ring while packets of a second
 -- plan are under way too.
 pub record AreFiguresBeside (nodes : List Name) (plan second : Plan) (text : List ℕ) : Type 0 where
   pub figures : List ℕ

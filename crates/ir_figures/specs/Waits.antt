@@ -4,7 +4,7 @@ use Rattle.ir_model.specs.declared.Hop.{Hop}
 use Rattle.ir_model.specs.Topology.{node_count, port_at}
 use Rattle.ir_model.specs.Plan.{Plan, table_port}
 
--- The directed link by port p of u waits for the one by port q of v: a prescribed walk takes one behind the other.
+-- The directed link by port p of u waits for the one by port q of v: a prescribed walk takes one after the other.
 pub record Waits (plan : Plan) (u p v q : ℕ) : Type 0 where
   pub goal : ℕ
   pub hop : Hop

@@ -33,8 +33,8 @@ fn bits_with(plan: &Plan, label: u8, u: u16, before: Bits) -> Bits
     }
 }
 
-/// The bits of a plan's rows, of which each start takes those of a label and of a port of the node,
-/// and of full tables by label, of which each entry takes those of a port of the node. Takes O(n),
+/// The bits of a plan's rows and of full tables by label. Each start of a row takes the bits of a
+/// label and of a port of the node, each entry of a table those of a port of the node. Takes O(n),
 /// for n nodes.
 pub fn bits_of(plan: &Plan) -> Bits
     ensures { AreBitsBefore plan.now (node_count plan.now.topology) result.rows result.tables }

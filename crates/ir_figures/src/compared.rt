@@ -41,7 +41,7 @@ fn labels_word(kind: Kind, order: LabelOrder) -> &'static str
     }
 }
 
-/// Writes the word of a kind, with the stretch behind that of landmark plans.
+/// Writes the word of a kind, with the stretch after that of landmark plans.
 fn push_kind(text: &mut String, kind: Kind) -> TextResult
     ensures { OnOk result (string_bytes text.new ≡ string_bytes text.old ++ compared_kind kind) }
 {
@@ -274,11 +274,11 @@ fn push_tables(text: &mut String, tables: u64) -> TextResult
     text.push_str(" - - -\n")
 }
 
-/// The text that compares the plans of a topology from a root: a row for each kind and each order
-/// of labels, with the figures that `figures_text` has of that plan, and a row of full tables by
-/// label. Their order is `shortest`, `compact` and `tree`, of each depth first and then by a tour,
-/// but for trees; behind them landmark plans of three detours. Each plan is made once, and one tour is
-/// searched for both kinds; two plans are held at a time. Their rows are made by a crew.
+/// The text that compares the plans of a topology from a root. It has a row for each kind and each order of labels,
+/// with the figures that `figures_text` has of that plan, and a row of full tables by label. Their order is `shortest`,
+/// `compact` and `tree`, of each depth first and then by a tour, but for trees; after them landmark plans of three
+/// detours. Each plan is made once, and one tour is searched for both kinds; two plans are held at a time. Their rows
+/// are made by a crew.
 ///
 /// Refused as each of these plans is: as Empty, NoNode or Disconnected, or for want of memory. Takes as long as
 /// `tour_of`, and as `figures_text` and the making of each plan.

@@ -57,7 +57,7 @@ fn push_names(text: &mut String, graph: &Graph, ring: &[u16]) -> TextResult
     Ok(())
 }
 
-/// Writes the line of the ring of links that wait for each other, if there is one, behind a word.
+/// Writes the line of the ring of links that wait for each other, if there is one, after a word.
 #[tactic(auto, using(ir_show::proofs::PlanLines::words_of_a_line))]
 fn push_ring(text: &mut String, word: &str, graph: &Graph, ring: &Option<Vec<u16>>) -> TextResult
     requires { IfSome ring.now (λ r. (i : ℕ) → i < length r.items → slice_index r.items i < length graph.now) }
@@ -111,7 +111,7 @@ fn push_landmarks(text: &mut String, alloc: Global, graph: &Graph, plan: &Plan) 
     push_stretch(text, detour.stretch)
 }
 
-/// The text of the figures of a plan, those of the field behind the others. Condition: the plan is over the graph's
+/// The text of the figures of a plan, those of the field after the others. Condition: the plan is over the graph's
 /// network. It is refused for memory alone. Takes as long as `stats_text` of `ir_show`, `most_intervals` and
 /// `waiting_ring`.
 pub fn figures_text(alloc: Global, graph: &Graph, plan: &Plan) -> Result<String, AllocError>
@@ -127,7 +127,7 @@ pub fn figures_text(alloc: Global, graph: &Graph, plan: &Plan) -> Result<String,
     Ok(text)
 }
 
-/// The text of the figures of a plan, and behind it the line of a ring of links that wait for each
+/// The text of the figures of a plan, and after it the line of a ring of links that wait for each
 /// other in that plan and a second one together. Conditions: both plans are over the graph's
 /// network. It is refused for memory alone. Takes as long as `figures_text` and
 /// `waiting_ring_together`.

@@ -81,7 +81,7 @@ fn goes_by(port: Option<u16>, p: u16) -> bool
     port == Some(p)
 }
 
-/// A mark for each port of the node behind a port of another one: whether what goes that way leaves by it.
+/// A mark for each port of the node beyond a port of another one: whether what goes that way leaves by it.
 fn onward(
     alloc: Global,
     plan: &Plan,
@@ -201,7 +201,7 @@ fn ring_in(alloc: Global, exits: &Exits, links: &Links) -> Result<Option<Vec<u16
 
 /// Nodes that directed links leave which wait for each other in a ring, in order; None where the
 /// links can be numbered such that each waits for greater ones alone. A link waits for another one
-/// where a walk that the plan prescribes takes them one behind the other: packets that hold one's
+/// where a walk that the plan prescribes takes them one after the other: packets that hold one's
 /// buffer wait for room in the other's (Dally and Seitz 1987).
 ///
 /// It takes a byte for each directed link and port of the node that it leads to. Refused for memory alone. Takes

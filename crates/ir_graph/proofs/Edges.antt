@@ -15,7 +15,7 @@ use Rattle.ir_graph.proofs.Keeping.{at_row}
 
 -- ---- a filter by places
 
--- what passes stands behind those before it that pass
+-- what passes follows those before it that pass
 pub filtered_at : {X : Type 0} (p : X → Bool) (xs : List X) (i : ℕ) (x : X) → slice_get xs i ≡ Some x → p x ≡ true → slice_get (filter p xs) (length (filter p (take i xs))) ≡ Some x
 filtered_at p [] i x at pass = absurd (none-some x at)
 filtered_at p (y ∷ ys) zero x at pass =
@@ -31,7 +31,7 @@ pub filter_step : {X : Type 0} (p : X → Bool) (xs : List X) (i : ℕ) (x : X) 
 filter_step p xs i x at =
     length-filter_more p xs i x (slice_get_within xs i x at) ∙ ap (λ y. length (filter p (take i xs)) + cond (p y) 1 0) (get_or_from_slice_get xs i x x at)
 
--- ---- two lists behind each other
+-- ---- two lists after each other
 
 pub slice_get-behind : {X : Type 0} (xs ys : List X) (i n : ℕ) → i + length xs ≡ n → slice_get (xs ++ ys) n ≡ slice_get ys i
 slice_get-behind [] ys i n h = ap (slice_get ys) (omega (arith, h))
@@ -93,7 +93,7 @@ module _ (g : Adjacency) (i : ℕ) (x : Name) (named : slice_get (names g) i ≡
       ap (λ es. slice_get {X = Name × Name × ℕ} es left) (edges_step g i (x, row.0) row.1)
       ∙ slice_get-behind own (edges_after (take (i + 1) (names g)) (drop (i + 1) g)) rest left (ap (λ n. rest + n) (length-map {B = Name × Name × ℕ} (later_neighbors g i) (λ (e : Name × ℕ). (x, e.0, e.1))) ∙ h)
 
--- ---- what is left behind some elements that pass
+-- ---- what is left after some elements that pass
 
 pub left_passed : {X : Type 0} (p : X → Bool) (xs : List X) (i left place : ℕ) (x : X) → slice_get xs i ≡ Some x → p x ≡ true → 1 ≤ left → left + length (filter p (take i xs)) ≡ place → left - 1 + length (filter p (take (i + 1) xs)) ≡ place
 left_passed p xs i left place x at pass some h = omega (arith, filter_step p xs i x at ∙ ap (λ b. length (filter p (take i xs)) + cond b 1 0) pass)
@@ -104,7 +104,7 @@ left_skipped p xs i left place x at pass h = omega (arith, filter_step p xs i x 
 pub place_passed : {X : Type 0} (p : X → Bool) (xs : List X) (i left place : ℕ) (x : X) → slice_get xs i ≡ Some x → p x ≡ true → left ≡ 0 → left + length (filter p (take i xs)) ≡ place → slice_get (filter p xs) place ≡ Some x
 place_passed p xs i left place x at pass none h = let e : length (filter p (take i xs)) ≡ place = omega arith in ap (slice_get (filter p xs)) (sym e) ∙ filtered_at p xs i x at pass
 
--- what stands at a place within, and what is true of it
+-- what is at a place within, and what is true of it
 pub there_then : {X : Type 0} (xs : List X) (i : ℕ) → i < length xs → (P : X → Type 0) → IfSome (slice_get xs i) P → (x : X) × (slice_get xs i ≡ Some x) × P x
 there_then [] i h P p = absurd (omega (arith, h))
 there_then (x ∷ xs) zero h P p = (x, refl, p)

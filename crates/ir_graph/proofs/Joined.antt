@@ -87,7 +87,7 @@ module _ (u v : Name) (w : ℕ) where
           no true s = absurd (eqb-false i j t (one_place (names g) i j u differ at_i (at_j ∙ ap (λ n. Some n) (sym (same_names u v s)))))
           no false s = refl
 
--- what stands in a list stands at the same place where more comes behind it
+-- what is in a list is at the same place where more comes after it
 pub place-append : {X : Type 0} (xs ys : List X) (i : ℕ) (x : X) → slice_get xs i ≡ Some x → slice_get (xs ++ ys) i ≡ Some x
 place-append [] ys i x h = absurd (none-some x h)
 place-append (y ∷ xs) ys zero x h = h

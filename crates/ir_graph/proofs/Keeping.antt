@@ -151,7 +151,7 @@ pub length-at_row : (walked : List Name) (x : Name) (es fs : Neighbors) (ts : Li
 length-at_row walked x es fs ts h =
     omega (arith, length-append (at_row walked x fs) ts, length-append (at_row walked x es) ts, length-map {B = Name × Name × ℕ} (filter (λ (e : Name × ℕ). not (among walked e.0)) fs) (λ (e : Name × ℕ). (x, e.0, e.1)), length-map {B = Name × Name × ℕ} (filter (λ (e : Name × ℕ). not (among walked e.0)) es) (λ (e : Name × ℕ). (x, e.0, e.1)), h)
 
--- behind a row whose name was walked nothing comes
+-- after a row whose name was walked nothing comes
 module _ (u v : Name) (w : ℕ) where
   walked_first : (walked : List Name) (g : Adjacency) → among walked u ≡ true → AllByRecursion (λ n. bytes_eq u n ≡ false) (names g) → edges_after walked (each_row (linked u v w) g) ≡ edges_after walked g
   walked_first walked [] h apart = refl

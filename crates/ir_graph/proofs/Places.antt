@@ -1,4 +1,4 @@
--- Laws of places: which node stands at a place, and what its neighbours are.
+-- Laws of places: which node is at a place, and what its neighbours are.
 use Rattle.std.proofs.Common.{◌≡◌, ◌<◌, ◌≤◌, ◌+◌, ℕ, zero, suc, Bool, true, false, not, cond, ◌||◌, List, [], ◌∷◌, map, length, take, Option, Some, None, is_some, option_map, slice_get, unwrap_or, nat_lt, position, refl, sym, ap, subst, ◌∙◌, bytes_eq, arith, one-add}
 use Rattle.std.specs.Option.{option_map_or}
 use Rattle.std.specs.List.{position_or_len, IsDistinct}
@@ -66,7 +66,7 @@ pub among-has_node : (g : Adjacency) (x : Name) → among (names g) x ≡ has_no
 among-has_node [] x = refl
 among-has_node (r ∷ rs) x = elim (bytes_eq x r.0) as (λ b. (b || among (names rs) x) ≡ is_some (cond b (Some r.1) (lookup (bytes_eq x) rs))) [ true ↦ refl | false ↦ among-has_node rs x ]
 
--- a node stands at its place
+-- a node is at its place
 pub at_place_of : (g : Adjacency) (x : Name) → has_node g x ≡ true → slice_get (names g) (place_of g x) ≡ Some x
 at_place_of g x h = named_place (names g) x (among-has_node g x ∙ h)
 
@@ -82,7 +82,7 @@ has_node_at (r ∷ rs) (suc i) x h = by (bytes_eq x r.0) (has_node_at rs i x h)
     by true later = refl
     by false later = later
 
--- ---- what stands at a place
+-- ---- what is at a place
 
 pub name_there : (g : Adjacency) (i : ℕ) → i < length g → (x : Name) × (slice_get (names g) i ≡ Some x)
 name_there [] i h = absurd (omega (arith, h))
@@ -105,7 +105,7 @@ module _ (g : Adjacency) (differ : IsDistinct bytes_eq (names g)) where
 
 -- ---- links by place
 
--- what stands in a row is found in it
+-- what is in a row is found in it
 found_at : (es : Neighbors) (p : ℕ) (e : Name × ℕ) → slice_get es p ≡ Some e → is_some (lookup (bytes_eq e.0) es) ≡ true
 found_at [] p e h = absurd (none-some e h)
 found_at (f ∷ es) zero e h = ap (λ b. is_some (cond b (Some f.1) (lookup (bytes_eq e.0) es))) (ap (λ (n : Name × ℕ). bytes_eq e.0 n.0) (same_Some f e h) ∙ bytes_eq-same e.0)

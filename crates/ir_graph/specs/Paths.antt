@@ -13,7 +13,7 @@ IsPath g x y (z ∷ rest) = (has_edge g x z ≡ true) × IsPath g z y rest
 abbrev pub IsConnectedGraph : Adjacency → Type 0
 IsConnectedGraph g = (x y : Name) → has_node g x ≡ true → has_node g y ≡ true → (path : List Name) × IsPath g x y path
 
--- That the graph has no node is told first. Want of memory comes only where there is one.
+-- That the graph has no node is reported first. Want of memory comes only where there is one.
 abbrev pub RefusesEmpty : Adjacency → GraphError → Type 0
 RefusesEmpty g NoMemory = 0 < length g
 RefusesEmpty g e = (e ≡ EmptyGraph) × (length g ≡ 0)

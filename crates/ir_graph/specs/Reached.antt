@@ -31,6 +31,6 @@ HasNeighbors g places i p = (q j w : ℕ) → q < p → neighbor_at g i q ≡ So
 abbrev pub AreClosed : Adjacency → List ℕ → Type 0
 AreClosed g places = (i : ℕ) → HasPlace places i → HasNeighbors g places i (length (neighbors_at g i))
 
--- the places so far, and perhaps more behind them
+-- the places so far, and perhaps more after them
 abbrev pub HasMoreBehind : List ℕ → List ℕ → Type 0
 HasMoreBehind before after = (more : List ℕ) × (after ≡ before ++ more)

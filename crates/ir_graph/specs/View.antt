@@ -18,7 +18,7 @@ change_row [] i f = []
 change_row (r ∷ rs) zero f = (r.0, f r.1) ∷ rs
 change_row (r ∷ rs) (suc i) f = r ∷ change_row rs i f
 
--- with u and v, which stand at i and j, in each other's rows
+-- with u and v, which are at i and j, in each other's rows
 abbrev pub linked_rows : Adjacency → ℕ → ℕ → Name → Name → ℕ → Adjacency
 linked_rows g i j u v w =
     let half = change_row g i (λ es. put es v w) in

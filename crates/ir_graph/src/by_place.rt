@@ -41,7 +41,7 @@ pub fn neighbor_at(rows: &Rows, node: usize, place: usize) -> Option<(usize, u32
     Some((neighbor, weight))
 }
 
-/// Whether a name stands as a node before a place.
+/// Whether a name is a node before a place.
 fn stands_before(rows: &Rows, name: &str, node: usize) -> bool
     requires { node < length (rows_view rows.now) }
     ensures { result ≡ among (take node (names (rows_view rows.now))) name.now }
@@ -52,7 +52,7 @@ fn stands_before(rows: &Rows, name: &str, node: usize) -> bool
     }
 }
 
-/// The neighbour at a place of the node at a place, if it doesn't stand before the node.
+/// The neighbour at a place of the node at a place, if it isn't before the node.
 fn later_at(rows: &Rows, node: usize, place: usize) -> Option<(&str, u32)>
     requires { node < length (rows_view rows.now) }
     ensures before { IfNone result
@@ -70,7 +70,7 @@ fn later_at(rows: &Rows, node: usize, place: usize) -> Option<(&str, u32)>
 }
 
 /// The edge at a place of those that the node at a place has with itself and later nodes, by its other end and its
-/// weight, or how many places are left behind the last of them.
+/// weight. After the last of them, how many places are left.
 fn later_edge(rows: &Rows, node: usize, place: usize) -> Result<(&str, u32), usize>
     requires { node < length (rows_view rows.now) }
     ensures { MatchResult result (λ e. slice_get (later_neighbors (rows_view rows.now) node) place

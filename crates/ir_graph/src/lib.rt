@@ -1,5 +1,5 @@
 //! Undirected graphs with named nodes and weighted edges, under the names of NetworkX's `Graph`. Nodes, and the
-//! neighbours of a node, stand in the order in which they were added, and keep it when others go.
+//! neighbours of a node, are in the order in which they were added, and keep it when others go.
 //!
 //! Names are 1 to `MAX_NAME_BYTES` printable ASCII bytes without blanks and `#`, weights 1 to `MAX_WEIGHT`. A graph
 //! has at most `MAX_NODES` nodes and `MAX_EDGES` edges. An edge of a node with itself is one edge and two ends.
@@ -165,7 +165,7 @@ impl Graph {
     }
 
     /// The edge at a place, by its ends and its weight. Edges are ordered by node, then by neighbour, leaving out
-    /// neighbours that stand before the node. Takes O(n + m) on average, for n nodes and m edges before the place.
+    /// neighbours that are before the node. Takes O(n + m) on average, for n nodes and m edges before the place.
     /// For users of the library.
     pub fn edge(&self, place: usize) -> Option<(&str, &str, u32)>
         ensures { option_map {U = List ℕ × List ℕ × ℕ} (λ edge. (edge.0.now, edge.1.now, edge.2)) result

@@ -123,7 +123,7 @@ pub fn place(alloc: Global, rows: &mut Rows, name: &str) -> Result<usize, AllocE
     }
 }
 
-/// Links two nodes. On an error rows may have come behind those that were there.
+/// Links two nodes. On an error rows may have come after those that were there.
 fn extend_link(
     alloc: Global,
     rows: &mut Rows,

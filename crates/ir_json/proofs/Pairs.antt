@@ -1,4 +1,4 @@
--- A pair of a list, and the pairs behind it.
+-- A pair of a list, and the pairs after it.
 use Rattle.std.proofs.Common.{◌≡◌, ℕ, Bool, false, List, [], ◌∷◌, ◌++◌, drop, refl, sym, ap, ◌∙◌, append_assoc}
 use Rattle.std.proofs.lemmas.List.{append-nil}
 use Rattle.ir_model.specs.Graph.{Name}
@@ -9,7 +9,7 @@ pairs_next : (template : List ℕ) (is_first : Bool) (first : Name) (words : Lis
 pairs_next template is_first first [] = sym (append-nil (comma is_first ++ filled template (first ∷ [])))
 pairs_next template is_first first (second ∷ words) = refl
 
--- behind what is written a pair is written
+-- after what is written a pair is written
 pub pairs_on : (template text written whole lead : List ℕ) (is_first : Bool) (first : Name) (words after rest : List Name)
     → text ++ pairs_from template is_first words ≡ whole → words ≡ first ∷ after → lead ≡ comma is_first → written ≡ (text ++ lead) ++ filled template words → rest ≡ drop 1 after
     → written ++ pairs_from template false rest ≡ whole

@@ -9,7 +9,7 @@ use Rattle.ir_json.specs.declared.form.Form.{Form}
 use Rattle.ir_json.specs.declared.form.Items.{Items}
 use Rattle.ir_json.specs.declared.form.Items.TheVariants as items
 
--- what the words behind a line's front are: none, names, pairs in a template, or segments
+-- what the words after a line's front are: none, names, pairs in a template, or segments
 pub data Further : Type 0 where
   NoMore : Further
   Names : Further
@@ -29,7 +29,7 @@ listed front further = record { front = front; further = further }
 abbrev pub plain : List ℕ → LineForm
 plain front = listed front NoMore
 
--- what a value of the program says of the words behind a front
+-- what a value of the program says of the words after a front
 abbrev pub further_held : Items → Further
 further_held items.NoItems = NoMore
 further_held items.Names = Names
@@ -64,7 +64,7 @@ word_at words place = slice_index_or words place []
 abbrev pub is_word_at : List Name → ℕ → List ℕ → Bool
 is_word_at words place word = bytes_eq (word_at words place) word
 
--- the fate at a place of a line has the names of a link behind it
+-- the fate at a place of a line has the names of a link after it
 abbrev pub has_link : List Name → ℕ → Bool
 has_link words place = is_word_at words place (codes "down") || is_word_at words place (codes "full")
 

@@ -19,12 +19,12 @@ first_row Stats = 0
 first_row Compare = 2
 first_row shape = 1
 
--- the line has the sizes of full tables, which stand behind the list of plans
+-- the line has the sizes of full tables, which follow the list of plans
 abbrev pub is_tables : Shape → ℕ → List Name → Bool
 is_tables Compare place words = nat_lt 1 place && is_word_at words 0 (codes "tables")
 is_tables shape place words = false
 
--- what stands before the line at a place: rows have commas between them
+-- what is before the line at a place: rows have commas between them
 abbrev pub lead : Shape → ℕ → List Name → List ℕ
 lead shape place words =
     if is_tables shape place words then codes "\n],\n"
@@ -45,7 +45,7 @@ lines_text shape place [] = []
 lines_text shape place (line ∷ lines) =
     if has_no_word (words_of line) then lines_text shape place lines else json_line shape place (words_of line) ++ lines_text shape (place + 1) lines
 
--- what stands before all lines, and behind them
+-- what is before all lines, and after them
 abbrev pub opening : Shape → List ℕ
 opening Order = codes "{\"order\":["
 opening Stats = codes "{"

@@ -1,4 +1,4 @@
--- The words behind a line's front as a list of JSON.
+-- The words after a line's front as a list of JSON.
 use Rattle.std.specs.Prelude.{ℕ, ◌==◌, Bool, true, false, if◌then◌else◌, List, [], ◌∷◌, ◌++◌, drop, slice_index_or, codes}
 use Rattle.ir_model.specs.Graph.{Name}
 use Rattle.ir_model.specs.Text.{is_empty}
@@ -6,7 +6,7 @@ use Rattle.ir_json.specs.Words.{json_string, json_number}
 use Rattle.ir_json.specs.Signs.{filled}
 use Rattle.ir_json.specs.Forms.{Further, NoMore, Names, Pairs, Segments}
 
--- what stands before an item of a list
+-- what is before an item of a list
 abbrev pub comma : (is_first : Bool) → List ℕ
 comma true = []
 comma false = codes ","
@@ -26,7 +26,7 @@ pairs_from template is_first (first ∷ second ∷ words) = (comma is_first ++ f
 abbrev pub opens_segment : Name → Bool
 opens_segment word = slice_index_or word 0 0 == 35
 
--- what stands before a word of a row of segments, by the word before it, which is empty for the first
+-- what is before a word of a row of segments, by the word before it, which is empty for the first
 abbrev pub between : Name → Name → List ℕ
 between before word =
     if opens_segment word then (if is_empty before then [] else codes "]},") else (if opens_segment before then [] else codes ",")
@@ -40,7 +40,7 @@ abbrev pub segments_from : Name → List Name → List ℕ
 segments_from before [] = if is_empty before then [] else codes "]}"
 segments_from before (word ∷ words) = (between before word ++ segment_word word) ++ segments_from word words
 
--- the words behind a line's front, and what ends the line behind a list
+-- the words after a line's front, and what ends the line after a list
 abbrev pub items_text : Further → List Name → List ℕ
 items_text NoMore words = []
 items_text Names words = names_from true words ++ codes "]}"

@@ -16,7 +16,7 @@ sign_of b =
     else if b == 126 then Some Skipped
     else None
 
--- what stands in place of a sign: a string, a number, a string or null, the number before a mark or behind it, or nothing
+-- what is in place of a sign: a string, a number, a string or null, the number before a mark or after it, or nothing
 abbrev pub sign_text : Sign → Name → List ℕ
 sign_text Text word = json_string word
 sign_text Count word = json_number word
@@ -25,7 +25,7 @@ sign_text Front word = json_number (before_mark word)
 sign_text Behind word = json_number (behind_mark word)
 sign_text Skipped word = []
 
--- the words behind a sign's: `<` leaves its word to the next sign
+-- the words after a sign's: `<` leaves its word to the next sign
 abbrev pub words_after : Sign → List Name → List Name
 words_after Front words = words
 words_after sign words = drop 1 words
@@ -34,7 +34,7 @@ words_after sign words = drop 1 words
 abbrev pub first_word : List Name → Name
 first_word words = slice_index_or words 0 []
 
--- what a byte of a template comes to, and the words behind it
+-- what a byte of a template comes to, and the words after it
 abbrev pub part_text : ℕ → Option Sign → List Name → List ℕ
 part_text b None words = b ∷ []
 part_text b (Some sign) words = sign_text sign (first_word words)
@@ -48,7 +48,7 @@ abbrev pub filled : List ℕ → List Name → List ℕ
 filled [] words = []
 filled (b ∷ template) words = part_text b (sign_of b) words ++ filled template (part_left (sign_of b) words)
 
--- the words that are left behind those of its signs
+-- the words that are left after those of its signs
 abbrev pub left : List ℕ → List Name → List Name
 left [] words = words
 left (b ∷ template) words = left template (part_left (sign_of b) words)

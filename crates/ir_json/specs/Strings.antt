@@ -1,7 +1,7 @@
 -- What a string of JSON says.
 use Rattle.std.specs.Prelude.{ℕ, ◌+◌, ◌-◌, ◌*◌, ◌==◌, if◌then◌else◌, List, [], ◌∷◌, Option, Some, None, option_map, nat_lt}
 
--- where a reader of a string is: between characters, behind a backslash, or before the last digits of a character's number
+-- where a reader of a string is: between characters, after a backslash, or before the last digits of a character's number
 pub data Reading : Type 0 where
   Between : Reading
   Behind : Reading
@@ -29,6 +29,6 @@ read_from Behind (b ∷ rest) = if b == 117 then read_from (Before 4 0) rest els
 read_from (Before digits so_far) (b ∷ rest) =
     if digits == 1 then onto (so_far * 16 + hex_value b) (read_from Between rest) else read_from (Before (digits - 1) (so_far * 16 + hex_value b)) rest
 
--- the same, behind the quote that begins a string
+-- the same, after the quote that begins a string
 abbrev pub read_string : List ℕ → Option (List ℕ × List ℕ)
 read_string text = read_from Between text

@@ -6,7 +6,7 @@ use Rattle.std.specs.List.{list_all, prefix_len}
 abbrev pub hex_digit : ℕ → ℕ
 hex_digit n = if nat_lt n 10 then 48 + n else 87 + n
 
--- a quote and a backslash have a backslash before them, and a byte that is not printable stands by its number
+-- a quote and a backslash have a backslash before them, and a byte that is not printable is by its number
 abbrev pub json_byte : ℕ → List ℕ
 json_byte b =
     if b == 34 || b == 92 then 92 ∷ b ∷ []
@@ -34,7 +34,7 @@ json_number word = if is_whole_number word then word else codes "null"
 abbrev pub goal : List ℕ → List ℕ
 goal word = if bytes_eq word (codes "#") then codes "null" else json_string word
 
--- the digits at the front of a word such as `3/2` or `0-4`, and what stands behind the mark that follows them
+-- the digits at the front of a word such as `3/2` or `0-4`, and what follows the mark that follows them
 abbrev pub before_mark : List ℕ → List ℕ
 before_mark word = take (prefix_len is_digit_byte word) word
 

@@ -8,7 +8,7 @@ use crate::words::{before_mark, behind_mark, push_goal, push_number, push_quoted
 use ir_adjlist::scan::next_word;
 use ir_growth::{Refusal, push_char};
 
-/// What stands in place of a word.
+/// What is in place of a word.
 #[derive(Clone, Copy)]
 pub enum Sign {
     /// The word as a string: `$`.
@@ -19,7 +19,7 @@ pub enum Sign {
     Goal,
     /// The number before a mark in the word, which is left to the next sign: `<`.
     Front,
-    /// The number behind a mark in the word: `>`.
+    /// The number after a mark in the word: `>`.
     Behind,
     /// Nothing: `~`.
     Skipped,
@@ -52,7 +52,7 @@ pub fn first_word(line: &[u8]) -> (&[u8], &[u8])
     }
 }
 
-/// Writes what stands in place of a sign for a word.
+/// Writes what is in place of a sign for a word.
 fn push_shown(text: &mut String, sign: Sign, word: &[u8]) -> Result<(), Refusal>
     ensures { OnOk result (string_bytes text.new ≡ string_bytes text.old ++ sign_text sign word.now) }
 {
@@ -66,7 +66,7 @@ fn push_shown(text: &mut String, sign: Sign, word: &[u8]) -> Result<(), Refusal>
     }
 }
 
-/// Writes what a byte of a template comes to, and answers what of the line is left behind it.
+/// Writes what a byte of a template comes to, and answers what of the line is left after it.
 fn push_part<'a>(text: &mut String, byte: u8, line: &'a [u8]) -> Result<&'a [u8], Refusal>
     requires { byte < 128 }
     ensures text { OnOk result (string_bytes text.new ≡ string_bytes text.old
@@ -86,7 +86,7 @@ fn push_part<'a>(text: &mut String, byte: u8, line: &'a [u8]) -> Result<&'a [u8]
     }
 }
 
-/// Writes a template with the words of a line in place of its signs, and answers what of the line is left behind them.
+/// Writes a template with the words of a line in place of its signs, and answers what of the line is left after them.
 pub fn push_filled<'a>(
     text: &mut String,
     template: &str,

@@ -53,7 +53,7 @@ const ACT_END: &str = "{\"line\":#,\"event\":$,\"node\":$,\"packet\":#,\"epoch\"
 
 const FINDING: &str = "{~\"line\":#,\"finding\":$}";
 
-/// What the words behind a line's front are.
+/// What the words after a line's front are.
 #[derive(Clone, Copy)]
 pub enum Items {
     NoItems,
@@ -98,7 +98,7 @@ fn word_at(line: &[u8], place: usize) -> &[u8]
     first_word(rest).0
 }
 
-/// Whether the fate at a place of a line has the names of a link behind it.
+/// Whether the fate at a place of a line has the names of a link after it.
 fn has_link(line: &[u8], place: usize) -> bool
     ensures { result ≡ has_link (words_of line.now) place }
 {
@@ -231,7 +231,7 @@ pub fn form_of(shape: Shape, place: usize, line: &[u8]) -> Form
     }
 }
 
-/// What stands before the line at a place.
+/// What is before the line at a place.
 pub fn lead(shape: Shape, place: usize, line: &[u8]) -> &'static str
     ensures { result.now ≡ lead shape place (words_of line.now) }
 {

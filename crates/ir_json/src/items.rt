@@ -1,4 +1,4 @@
-//! The words behind a line's front as a list.
+//! The words after a line's front as a list.
 ghost use Rattle.std.specs.Prelude.{◌≡◌, ◌++◌, [], true, OnOk, nat_lt, string_bytes};
 ghost use Rattle.std.specs.List.{list_all};
 ghost use Rattle.ir_model.specs.Text.{words_of};
@@ -11,7 +11,7 @@ use crate::words::{push_number, push_quoted};
 use ir_adjlist::scan::next_word;
 use ir_growth::{Refusal, push_str};
 
-/// What stands before an item of a list.
+/// What is before an item of a list.
 fn comma(is_first: bool) -> &'static str
     ensures { result.now ≡ comma is_first }
 {
@@ -57,7 +57,7 @@ fn opens_segment(word: &[u8]) -> bool
     matches!(word.first(), Some(b'#'))
 }
 
-/// What stands before a word of a row of segments.
+/// What is before a word of a row of segments.
 fn between(before: &[u8], word: &[u8]) -> &'static str
     ensures { result.now ≡ between before.now word.now }
 {
@@ -101,7 +101,7 @@ fn push_segments(text: &mut String, line: &[u8]) -> Result<(), Refusal>
     Ok(())
 }
 
-/// Writes the words behind a line's front, and what ends the line behind a list.
+/// Writes the words after a line's front, and what ends the line after a list.
 pub fn push_items(text: &mut String, items: Items, line: &[u8]) -> Result<(), Refusal>
     requires { is_ascii_further (further_held items) ≡ true }
     ensures { OnOk result (string_bytes text.new ≡ string_bytes text.old

@@ -10,7 +10,7 @@ pub fn string_is_read_again()
         → read_string (json_escaped word ++ 34 ∷ rest) ≡ Some (word, rest) }
 {}
 
-/// A neighbour's name is a string, also where it is `-`: null stands where there is no neighbour, and there alone.
+/// A neighbour's name is a string, also where it is `-`: null is where there is no neighbour, and there alone.
 pub fn neighbour_is_a_string()
     ensures { (name : Name) → is_name name ≡ true → goal name ≡ json_string name }
 {}

@@ -45,7 +45,7 @@ impl Shape {
         }
     }
 
-    /// What stands before all lines.
+    /// What is before all lines.
     pub(crate) fn opening(self) -> &'static str
         ensures { result.now ≡ opening self }
     {
@@ -56,7 +56,7 @@ impl Shape {
         }
     }
 
-    /// What stands behind all lines.
+    /// What follows all lines.
     pub(crate) fn closing(self) -> &'static str
         ensures { result.now ≡ closing self }
     {

@@ -89,7 +89,7 @@ fn find_mark(word: &[u8]) -> Option<usize>
     word.iter().position(|byte| !is_digit_byte(*byte))
 }
 
-/// How many digits stand at the front.
+/// How many digits are at the front.
 fn digits(word: &[u8]) -> usize
     ensures len { result ≡ prefix_len is_digit_byte word.now }
     ensures within { result ≤ length word.now }
@@ -104,7 +104,7 @@ pub fn before_mark(word: &[u8]) -> &[u8]
     &word[..digits(word)]
 }
 
-/// What stands behind the byte that follows the digits at the front.
+/// What follows the byte that follows the digits at the front.
 pub fn behind_mark(word: &[u8]) -> &[u8]
     ensures { result.now ≡ behind_mark word.now }
 {

@@ -48,7 +48,7 @@ batch_more net nodes b made more v long all is own =
           (cases_lt i b)),
     )
 
--- ---- what the marks of a port tell
+-- ---- what the marks of a port say
 
 -- where the ports of a node begin, as it was read
 pub begin_read : (net : Topology) (nodes : List ℕ) (marks : PortMarks) → ArePortMarks net nodes marks → (u : ℕ) → u < node_count net → (begins : List ℕ) → begins ≡ marks.begins
@@ -172,7 +172,7 @@ marking_skips (suc n) word first i old before row marked clean none so_far =
     let rest = marking_skips n word first i old before row marked clean (λ k from to. none k from (omega (arith, to))) so_far in
     subst (λ j. IsMarking word first j old before row marked) same (marking_skip word first (i + n) old before row marked clean (λ room. none (i + n) (omega arith) (omega arith)) rest)
 
--- a bit of what is left of a word behind its first bits
+-- a bit of what is left of a word after its first bits
 rest_bit : (word i j : ℕ) → word / 2 ^ i / 2 ^ j ≡ word / 2 ^ (i + j)
 rest_bit word i j = div-div-eq-div-mul word (2 ^ i) (2 ^ j) ∙ ap (λ m. word / m) (sym (pow-add 2 i j))
 

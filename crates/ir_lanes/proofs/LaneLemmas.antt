@@ -97,7 +97,7 @@ pub same_when_not_ne : (x y : ℕ) (h : Bool) → eqb x y ≡ h → not (eqb x y
 same_when_not_ne x y true e f = eqb-true x y e
 same_when_not_ne x y false e f = absurd (cc (e, f))
 
--- the bit k of the mask tells whether lane k of two is the same
+-- the bit k of the mask says whether lane k of two is the same
 pub same_bit : (a b : List ℕ) → length a ≡ 16 → length b ≡ 16 → (k : ℕ) → k < 16 → mask_l (zip2 eqb a b) / 2 ^ k % 2 ≡ cond (eqb (get_or a k 0) (get_or b k 0)) 1 0
 same_bit a b p q k l = bit_mask_l (zip2 eqb a b) k ∙ ap (λ t. cond t 1 0) (get_or-zip2 eqb a b k 0 0 false (omega (arith, l, p)) (omega (arith, l, q)))
 

@@ -1,4 +1,4 @@
--- Words of ports: which ports lead nearer, told by the distances in lanes.
+-- Words of ports: which ports lead nearer, given by the distances in lanes.
 use Rattle.std.proofs.Common.{◌≡◌, ◌≢◌, ◌↔◌, ℕ, zero, suc, ◌+◌, ◌*◌, ◌/◌, ◌%◌, ◌^◌, ◌<◌, ◌≤◌, Bool, true, false, cond, eqb, List, [], ◌∷◌, ◌++◌, Some, length, sum_by, take, slice_index, slice_index_or, refl, sym, ap, subst, ◌∙◌, arith, ⊎_elim}
 use Rattle.std.proofs.lemmas.Bool.{cases_lt, eqb-true, eqb-false}
 use Rattle.std.proofs.lemmas.Option.{slice_get_within, slice_get-get_or}
@@ -38,13 +38,13 @@ before_few net ok (suc u) u_in =
     let same : ports_before net (suc u) ≡ ports_before net (u + 1) = ap (ports_before net) next in
     omega (arith, before_few net ok u (omega (arith, u_in)), degree_bound net ok u, few, more, same)
 
--- the ports of an earlier node stand before those of a later one
+-- the ports of an earlier node are before those of a later one
 pub port_before : (net : Topology) (v u p : ℕ) → v < u → v < node_count net → p < length (ports_of net v) → ports_before net v + p < ports_before net u
 port_before net v u p less v_in p_in =
     let up : ports_before net (v + 1) ≤ ports_before net u = take_mono net.ports (v + 1) u (omega (arith, less)) in
     omega (arith, up, before_more net v v_in, p_in)
 
--- the ports of a node stand among all
+-- the ports of a node are among all
 pub ports_within : (net : Topology) (u : ℕ) → u < node_count net → ports_before net u + length (ports_of net u) ≤ ports_before net (node_count net)
 ports_within net u u_in =
     let up : ports_before net (u + 1) ≤ ports_before net (node_count net) = take_mono net.ports (u + 1) (node_count net) (omega (arith, u_in)) in
@@ -97,7 +97,7 @@ tight_more net ok weights u old words u_in pushed before = record {
       (cases_lt v u);
 }
 
--- ---- what the distances tell
+-- ---- what the distances say
 
 module _ (net : Topology) (ok : IsTopology net) (ends weights : List ℕ)
     (weight : (k u : ℕ) → k < 16 → u < node_count net → IsDistance net u (slice_index ends k) (in_lane weights k u)) where

@@ -28,7 +28,7 @@ pub record IsEndStart (net : Topology) (d : ℕ) (start : ℕ → ℕ) : Type 0 
   pub end : start d ≡ 0
   pub others : (v : ℕ) → v < node_count net → v ≢ d → far ≤ start v
 
--- each neighbour of s has the weight of the port to it, and behind it the port; what is near stands at a neighbour
+-- each neighbour of s has the weight of the port to it, and after it the port; what is near is at a neighbour
 pub record IsSourceStart (net : Topology) (unit s : ℕ) (start : ℕ → ℕ) : Type 0 where
   pub below : (p : ℕ) (hop : Hop) → port_at net s p ≡ Some hop → start hop.node ≤ hop.weight * unit + p
   pub met : (v : ℕ) → v < node_count net → start v < far

@@ -20,17 +20,17 @@ pub record ArePortWords (net : Topology) (ends words : List ℕ) : Type 0 where
   pub bit : (u p k : ℕ) → u < node_count net → p < length (ports_of net u) → k < 16 → IsSet (slice_index words (ports_before net u + p)) k ↔ LeadsNearer net u (slice_index ends k) p
   pub nearer : (u k : ℕ) → u < node_count net → k < 16 → u ≢ slice_index ends k → (p : ℕ) × LeadsNearer net u (slice_index ends k) p
 
--- in lane k the weight at u is that of a step by the port and what stands there
+-- in lane k the weight at u is that of a step by the port and what is there
 abbrev pub IsTightIn : List ℕ → ℕ → ℕ → Hop → Type 0
 IsTightIn weights k u hop = in_lane weights k u ≡ hop.weight + in_lane weights k hop.node
 
--- words for the first i ports of u stand behind the old ones
+-- words for the first i ports of u follow the old ones
 pub record IsPushing (net : Topology) (weights : List ℕ) (u i : ℕ) (old words : List ℕ) : Type 0 where
   pub longer : length words ≡ length old + i
   pub kept : (j : ℕ) → j < length old → slice_index words j ≡ slice_index old j
   pub bit : (p k : ℕ) (hop : Hop) → p < i → k < 16 → port_at net u p ≡ Some hop → IsSet (slice_index words (length old + p)) k ↔ IsTightIn weights k u hop
 
--- words for all ports of u stand behind the old ones
+-- words for all ports of u follow the old ones
 abbrev pub IsPushed : Topology → List ℕ → ℕ → List ℕ → List ℕ → Type 0
 IsPushed net weights u old words = IsPushing net weights u (length (ports_of net u)) old words
 

@@ -1,4 +1,4 @@
--- Sixteen lanes at each node: lane k of the node u stands at the place u * 16 + k of a list.
+-- Sixteen lanes at each node: lane k of the node u is at the place u * 16 + k of a list.
 use Rattle.std.specs.Prelude.{◌≡◌, ℕ, ◌+◌, ◌*◌, ◌<◌, ◌≤◌, Some, List, length, slice_get, slice_index}
 use Rattle.ir_model.specs.declared.Hop.{Hop}
 use Rattle.ir_model.specs.Topology.{Topology, node_count}

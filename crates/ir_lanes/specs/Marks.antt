@@ -64,7 +64,7 @@ pub record IsMarking (word first i : ℕ) (old : List Bool) (before : List ℕ) 
 abbrev pub PutsWord : ℕ → ℕ → List Bool → List ℕ → List Bool → List ℕ → Type 0
 PutsWord word first old before row marked = IsMarking word first 16 old before row marked
 
--- for each place of a list a word whose bits are the ports of u that lead nearer to the node there; more words may stand behind these
+-- for each place of a list a word whose bits are the ports of u that lead nearer to the node there; more words may follow these
 pub record AreTied (net : Topology) (nodes : List ℕ) (u : ℕ) (tied : List ℕ) : Type 0 where
   pub enough : length nodes ≤ length tied
   pub bit : (d p : ℕ) → d < length nodes → IsSet (slice_index tied d) p ↔ LeadsNearer net u (slice_index nodes d) p
@@ -79,12 +79,12 @@ pub record WithPort (before : List ℕ) (word port : ℕ) (lanes : List ℕ) : T
   pub long : length lanes ≡ 16
   pub bit : (k p : ℕ) → k < 16 → IsSet (slice_index lanes k) p ↔ (IsSet (slice_index before k) p ⊎ ((p ≡ port) × IsSet word k))
 
--- the bits in lane k are the ports, of the first i, in whose words the bit k is set; their words stand from `begin` on
+-- the bits in lane k are the ports, of the first i, in whose words the bit k is set; their words are from `begin` on
 pub record ArePortLanes (words : List ℕ) (begin i : ℕ) (lanes : List ℕ) : Type 0 where
   pub long : length lanes ≡ 16
   pub bit : (k p : ℕ) → k < 16 → IsSet (slice_index lanes k) p ↔ ((p < i) × IsSet (slice_index words (begin + p)) k)
 
--- sixteen words of the first i ports stand behind the old ones
+-- sixteen words of the first i ports follow the old ones
 pub record ArePushedTied (words : List ℕ) (begin i : ℕ) (old tied : List ℕ) : Type 0 where
   pub longer : length tied ≡ length old + 16
   pub kept : (j : ℕ) → j < length old → slice_index tied j ≡ slice_index old j

@@ -1,4 +1,4 @@
--- The shortest ways from sixteen nodes, as keys in lanes: a weight, and behind it a port.
+-- The shortest ways from sixteen nodes, as keys in lanes: a weight, and after it a port.
 use Rattle.std.specs.Prelude.{◌≡◌, ◌≢◌, ℕ, ◌*◌, ◌/◌, ◌%◌, ◌^◌, ◌<◌, ◌≤◌, ◌==◌, if◌then◌else◌, List, length, slice_index}
 use Rattle.ir_model.specs.Topology.{Topology, node_count}
 use Rattle.ir_model.specs.Walk.{IsDistance}

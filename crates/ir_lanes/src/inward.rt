@@ -12,9 +12,9 @@ use std::alloc::{AllocError, Global};
 use std::simd::prelude::*;
 
 /// A word for each port of each node, in order, in which the bit k is set where the port leads nearer to the node k of
-/// sixteen; or none, where the distances to these were not found in 64 sweeps and by the work of 20 passes over all
-/// links, as where some node has no walk to one of them. A node may come several times. Condition: they are nodes. It
-/// is refused for memory alone. Takes O(n + m) for each sweep, for n nodes and m links.
+/// sixteen. None, where the distances to these were not found in 64 sweeps and by the work of 20 passes over all links,
+/// as where some node has no walk to one of them. A node may come several times. Condition: they are nodes. It is
+/// refused for memory alone. Takes O(n + m) for each sweep, for n nodes and m links.
 pub fn words_toward(
     alloc: Global,
     topology: &Topology,
@@ -75,8 +75,8 @@ fn met_words(
     Ok(Some(words))
 }
 
-// Puts a word behind the others for each port of a node, in which the bit k is set where the weight in lane k is that
-// of a step by the port and what stands there. Whether the equation holds at the node is told.
+// Puts a word after the others for each port of a node. Its bit k is set where the weight in lane k is that of a step
+// by the port and what is there. Whether the equation holds at the node is reported.
 fn push_words(
     topology: &Topology,
     starts: &[u32],

@@ -99,7 +99,7 @@ impl PortMarks {
     }
 
     /// For each place of the list a word whose bits are the ports of a node that lead nearer to the node there; up to
-    /// fifteen words more stand behind these. Condition: these are the marks for the list, and the node has at most 32
+    /// fifteen words more follow these. Condition: these are the marks for the list, and the node has at most 32
     /// ports. It is refused for memory alone. Takes O(n) for each port, for n nodes in the list.
     pub fn tied(
         &self,
@@ -169,7 +169,7 @@ pub fn sixteen_from(alloc: Global, nodes: &[u16], first: usize) -> Result<Vec<u1
     Ok(sixteen)
 }
 
-// Puts sixteen words behind the others, whose bits are the ports, of some whose words stand from `begin` on, in whose
+// Puts sixteen words after the others, whose bits are the ports, of some whose words are from `begin` on, in whose
 // words the bit of the place is set.
 fn push_tied(
     words: &[u16],
@@ -188,7 +188,7 @@ fn push_tied(
     tied.extend_from_slice(&lanes.to_array())
 }
 
-// The node so far behind a place of a list, or the last one.
+// The node so far after a place of a list, or the last one.
 fn node_from(nodes: &[u16], first: usize, behind: usize) -> u16
     requires { first < length nodes.now }
     ensures { result ≡ node_from nodes.now (first + behind) }

@@ -1,4 +1,4 @@
-//! The order in which sweeps go over the nodes. Nothing is promised of it, and no answer depends on it: it only tells
+//! The order in which sweeps go over the nodes. Nothing is promised of it, and no answer depends on it: it only says
 //! how soon the lanes settle.
 ghost use Rattle.std.specs.Prelude.{◌<◌, ◌≤◌};
 ghost use Rattle.ir_model.specs.Topology.{node_count};
@@ -70,7 +70,7 @@ pub fn by_distance(alloc: Global, topology: &Topology, node: usize) -> Result<Ve
     numbers_of(alloc, keys.as_slice())
 }
 
-// The numbers behind the weights of keys.
+// The numbers after the weights of keys.
 fn numbers_of(alloc: Global, keys: &[u64]) -> Result<Vec<u16>, AllocError> {
     let mut numbers = Vec::with_capacity(alloc, keys.len())?;
     for key in keys {

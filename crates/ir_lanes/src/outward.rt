@@ -12,7 +12,7 @@ use std::alloc::{AllocError, Global};
 use std::marker::Model;
 
 /// The distances from sixteen nodes, and for each other node the least of their ports that lead nearer to it. A node
-/// may stand in several lanes.
+/// may be in several lanes.
 #[derive(Drop)]
 pub struct OutwardLanes {
     sources: Vec<u16>,
@@ -27,10 +27,10 @@ impl Model for OutwardLanes {
 }
 
 impl OutwardLanes {
-    /// The ways from sixteen nodes, the first of them in lane 0; or none, where they were not found in 64 sweeps and by
-    /// the work of 20 passes over all links, as where a distance and the bits of a port take more than 31 bits, where
-    /// some node has no walk to some node, and of one node alone. Condition: they are nodes. It is refused for memory
-    /// alone. Takes O(n + m) for each sweep, for n nodes and m links.
+    /// The ways from sixteen nodes, the first of them in lane 0. None, where they were not found in 64 sweeps and by
+    /// the work of 20 passes over all links. So it is where a distance and the bits of a port take more than 31 bits,
+    /// where some node has no walk to some node, and of one node alone. Condition: they are nodes. It is refused for
+    /// memory alone. Takes O(n + m) for each sweep, for n nodes and m links.
     pub fn from(
         alloc: Global,
         topology: &Topology,
@@ -76,7 +76,7 @@ impl OutwardLanes {
         Ok(weights)
     }
 
-    /// The least port of the node of a lane that leads nearer to each of some nodes, one behind the other; what stands
+    /// The least port of the node of a lane that leads nearer to each of some nodes, one after the other; what is
     /// for the lane's own node says nothing. Conditions: these are the ways of the topology, there is such a lane, and
     /// they are its nodes. It is refused for memory alone. Takes O(n), for n nodes.
     pub fn ports_along(
@@ -97,7 +97,7 @@ impl OutwardLanes {
         Ok(ports)
     }
 
-    // Puts the ports to some nodes, one behind the other.
+    // Puts the ports to some nodes, one after the other.
     fn put_ports(&self, topology: &Topology, lane: usize, nodes: &[u16], ports: &mut [u16])
         requires ways { AreOutwardLanes topology.now self.now }
         requires lane { lane < 16 }
@@ -161,7 +161,7 @@ fn bits_for(ports: usize) -> u32
     14
 }
 
-// How often a weight counts in a key behind which a port has so many bits.
+// How often a weight counts in a key after which a port has so many bits.
 fn unit_of(bits: u32) -> u32
     requires { bits ≤ 14 }
     ensures unit { result ≡ 2 ^ bits }
@@ -170,7 +170,7 @@ fn unit_of(bits: u32) -> u32
     1 << bits
 }
 
-// The lanes that the search from sixteen nodes starts with: at each neighbour the weight of the port to it, and behind
+// The lanes that the search from sixteen nodes starts with: at each neighbour the weight of the port to it, and after
 // it the port.
 fn source_starts(
     alloc: Global,

@@ -1,4 +1,4 @@
-//! Sweeps over the ports of all nodes, which lower what stands in the lanes.
+//! Sweeps over the ports of all nodes, which lower what is in the lanes.
 ghost use Rattle.std.specs.Prelude.{◌≡◌, ℕ, ◌+◌, ◌*◌, ◌<◌, ◌≤◌, Some, length, slice_get, slice_index};
 ghost use Rattle.ir_model.specs.{declared.Hop.Hop, Topology.node_count};
 ghost use Rattle.ir_lanes.specs.Lanes.{AreLeastOffers, AreNear, HaveLanes, far, most_added};
@@ -35,7 +35,7 @@ pub fn least_over(ports: &[Hop], unit: u32, lanes: &[u32]) -> u32x16
     least
 }
 
-// Takes what the ports of a node offer where that is less, and tells whether it was in any lane.
+// Takes what the ports of a node offer where that is less, and returns whether it was in any lane.
 fn pull(topology: &Topology, unit: u32, lanes: &mut [u32], u: usize) -> bool
     requires node { u < node_count topology.now }
     requires unit { unit ≤ 16384 }
@@ -128,7 +128,7 @@ fn most_work(topology: &Topology) -> usize {
     topology.links().saturating_mul(2 * MOST_PASSES)
 }
 
-// Turns over each window of an order, one behind the other, forward or backward. How many ports it pulled by.
+// Turns over each window of an order, one after the other, forward or backward. How many ports it pulled by.
 fn round(
     topology: &Topology,
     unit: u32,

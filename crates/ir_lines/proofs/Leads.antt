@@ -42,7 +42,7 @@ step_in_line words i g key p there each above is =
     let len : length (table_line words i) ≡ 32 = length-between words (32 * i) (32 * i + 32) there ∙ (omega arith) in
     step_in (table_line words i) g key 32 p len (λ j l. get_or-between words (32 * i) (32 * i + 32) j 0 (omega arith) ∙ each j l) above is
 
--- what stands in the lines
+-- what is in the lines
 pub root_word : (words : List ℕ) (p : ℕ) → p < 16 → get_or (root words) p 0 ≡ get_or words (16 + p) 0
 root_word words p l = get_or-between words 16 32 p 0 (omega arith)
 

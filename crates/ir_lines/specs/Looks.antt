@@ -27,7 +27,7 @@ depth_of words = slice_index words 3
 abbrev pub base_of : List ℕ → ℕ
 base_of words = slice_index words 4
 
--- the port of the start whose word stands at a place
+-- the port of the start whose word is at a place
 abbrev pub word_port : List ℕ → ℕ → ℕ
 word_port words p = slice_index words p % 65536
 

@@ -121,7 +121,7 @@ impl<T: Bound> Model for Remains<T> {
         ++ drop (length (pass_view r.pass).taken) (pass_view r.pass).sent) };
 }
 
-// Tells the rule where the channel leads and how much it holds.
+// Lets the rule know where the channel leads and how much it holds.
 fn name<T: Bound, K: Naming<T::Place>>(
     queue: &RuledArrayQueue<T, EndView<T, T::Place>, InOrder>,
     pass: &mut Pass<T, EndView<T, T::Place>>,
@@ -186,7 +186,7 @@ impl<T: Bound> Sender<T> {
         &self.shared.place
     }
 
-    /// Puts the item behind those in the channel, or gives it back.
+    /// Puts the item after those in the channel, or gives it back.
     ///
     /// The sent list grows by the item exactly where the answer is `Ok`. It is `Full` only where
     /// the channel held as many items as it can at one moment of the call, at which the push of

@@ -7,7 +7,7 @@
 //!
 //! - a push, by the sender (`send`), adds its item to the sent list;
 //! - a pop, by the taker (`take`), or by what has both ends (`Remains::take`), adds the item to the taken list;
-//! - a split of the first pass: once, where it is told the channel's terms, and once into the two ends (`ends`);
+//! - a split of the first pass: once, where it is given the channel's terms, and once into the two ends (`ends`);
 //! - a join of the two ends' passes (`join`).
 //!
 //! A push or a pop that is refused changes neither list, and `Moments` has a word for it that this

@@ -1,4 +1,4 @@
-//! Pushes and pops that tell their own moment where they are refused.
+//! Pushes and pops that record their own moment where they are refused.
 ghost use Rattle.std.specs.Prelude.{◌≡◌, List, IfErr, IfNone, IfSome};
 ghost use Rattle.atomic_table.specs.Seated.{TableId};
 ghost use Rattle.crossbeam_queue.specs.Passes.{view as pass_view, IsSamePass, IsPassOf, ruled_capacity};
@@ -16,7 +16,7 @@ pub struct Shared<T: Bound> {
     pub place: T::Place,
 }
 
-/// A runtime with a word for each call of a channel's queue that is refused: so a contract can say
+/// A runtime with a word for each call of a channel's queue that is refused. So a contract can say
 /// that this very push or pop was refused, and not only that the queue was full or empty once. Each
 /// runtime that may wait is one.
 pub trait Moments<T: Bound>: Wait {
@@ -28,7 +28,7 @@ pub trait Moments<T: Bound>: Wait {
     // second had then been sent.
     ghost was_empty: { TableId → List T → List T → Type 0 };
 
-    /// Puts the item behind those in the queue, or gives it back, and then this push was refused
+    /// Puts the item after those in the queue, or gives it back, and then this push was refused
     /// where the queue was full.
     fn push(
         &self,

@@ -54,7 +54,7 @@ impl<P> Naming<P> for Brand {
     ghost terms = { None };
 }
 
-/// A split that tells the first pass the channel's terms. The pass that it makes beside it may do nothing.
+/// A split that gives the first pass the channel's terms. The pass that it makes beside it may do nothing.
 pub struct NamedTerms<K> {
     marker: PhantomData<K>,
 }

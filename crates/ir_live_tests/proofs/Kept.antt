@@ -24,7 +24,7 @@ all_remove P xs i lt all = λ k d within. go k d within (ltb k i) refl where
   go k d within false e = (let len = length-remove xs i lt in let below = ltb-false k i e in subst P (sym (get_or-remove_above xs i d k (omega (arith, below)) lt)) (all (k + 1) d (omega (arith, within, len))))
 
 module _ (net : Net) (nodes : List Node) (of : AreNodesOf net nodes) where
-  -- a node that is the same but for what it did stands at its place
+  -- a node that is the same but for what it did is at its place
   pub nodes_set : (i : ℕ) (a b : Node) → i < length nodes → a ≡ get_or nodes i a → IsSameNode a b → AreNodesOf net (slice_set nodes i b)
   nodes_set i a b lt read same =
       let was : IsNodeOf net a = subst (λ (n : Node). IsNodeOf net n) (sym read) (of.each i a lt) in

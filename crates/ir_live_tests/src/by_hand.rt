@@ -147,7 +147,7 @@ pub(crate) fn tells_all(report: &Report, packets: &[Became<'_>]) -> bool {
     report.records.len() == packets.len()
 }
 
-/// The epoch that a receipt tells of, where it is that of an install.
+/// The epoch that a receipt is about, where it is that of an install.
 pub(crate) fn installed_by(receipt: &Receipt) -> Option<u32> {
     match receipt.stamp() {
         None => None,
@@ -269,7 +269,7 @@ impl<R: Wait + Drop> ByHand<R> {
         Some(self.parts.nodes.remove(at))
     }
 
-    /// Brings a node back, behind the others.
+    /// Brings a node back, after the others.
     pub(crate) fn bring_back(&mut self, node: Node) -> Option<()>
         requires { IsAway self.old.net self.old.parts node }
     {

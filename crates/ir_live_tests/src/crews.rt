@@ -15,7 +15,7 @@ const STEPS: [Step; 4] = [
     Step::Drain,
 ];
 
-/// What the steps are told.
+/// The replies to the steps.
 static REPLIES: [Result<Reply, Refused>; 4] = [
     Ok(Reply::Injected(0)),
     Ok(Reply::Installed(2)),
@@ -28,7 +28,7 @@ fn opening(alloc: Global) -> Option<Opening> {
     Some(Opening::of(path(alloc)?, Kind::Tree, 1, 16, 4, 0))
 }
 
-/// Whether the steps are told so, and the packet goes all the way.
+/// Whether these are the replies, and the packet goes all the way.
 fn is_run(played: &Played) -> bool {
     match played.world.packet(0) {
         Some(record) => {

@@ -386,8 +386,8 @@ fn read_untold(mut reader: BoardReader) -> (u32, u32, u32) {
     (behind, current, reader.stamp().epoch())
 }
 
-// The epoch of the receipt of an install; the version that a reader on another thread, to whom the receipt goes, reads,
-// and its stamp's epoch; and what a reader reads who does not learn of it.
+// The epoch of the receipt of an install. The version that a reader on another thread, to whom the receipt goes, reads,
+// and its stamp's epoch. What a reader reads who does not learn of it.
 fn learnt_by_one<R: Threads + Wait + Sync>(
     rt: &R,
     alloc: Global,
@@ -415,7 +415,7 @@ fn retire<R: Wait + Drop>(writer: &mut BoardWriter<R>, floor: u32) -> Option<Rec
     writer.change(Change::Retire(floor)).ok()
 }
 
-// What a receipt tells: the version, the epoch where it installed one, and the current epoch, the floor and link 0's
+// What a receipt says: the version, the epoch where it installed one, and the current epoch, the floor and link 0's
 // mark.
 type Told = (u32, Option<u32>, u32, u32, bool);
 
@@ -430,7 +430,7 @@ fn told_by(receipt: &Receipt) -> Told {
     )
 }
 
-// What the receipts of a mark, an install and a retirement tell.
+// What the receipts of a mark, an install and a retirement say.
 fn changes_told<R: Wait + Drop>(writer: &mut BoardWriter<R>, next: Stamp) -> Option<[Told; 3]>
     requires links { opening_links (published writer.old) ≡ 2 }
     requires registry { registry_name next ≡ registry_of (published writer.old) }

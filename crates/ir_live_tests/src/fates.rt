@@ -1,5 +1,5 @@
 //! Live runs by what becomes of their packets where a gate holds a node back: full, retired, restamped and delivered,
-//! with a drain behind each; and as many packets as there may be, to their ends.
+//! with a drain after each. Also as many packets as there may be, to their ends.
 
 use crate::by_hand::{Became, over_edges, path, tells_all};
 use crate::live;
@@ -73,7 +73,7 @@ const OVER: Became<'static> = Became {
 };
 
 /// Two packets that meet at b, before a channel to c that holds one and that c does not poll until one of them is
-/// dropped; and a third behind a drain.
+/// dropped; and a third after a drain.
 const MEETING: [Command; 5] = [
     Command::Inject(0, 2),
     Command::Inject(1, 2),
@@ -123,7 +123,7 @@ fn full_with_a_drain_behind_each(rt: HostRuntime) {
     assert!(rt; is_one_dropped(&rt, rt.alloc()));
 }
 
-/// A packet that waits at a until its epoch is retired and the next packet has arrived; and a third behind a drain.
+/// A packet that waits at a until its epoch is retired and the next packet has arrived; and a third after a drain.
 const WAITING: [Command; 7] = [
     Command::Inject(0, 2),
     Command::Install(Kind::Shortest, 0),
@@ -263,7 +263,7 @@ fn settles_over<R: Threads + Wait + Sync, C: Clock + Sync>(
     }
 }
 
-// Whether all are delivered over the shortest ways where the inboxes have room for all packets together: by the time
+// Whether all are delivered over the shortest ways where the inboxes have room for all packets together. By the time
 // that the node in the middle makes its first turn they wait for it, and it settles them all.
 fn settles_all<R: Threads + Wait + Sync, C: Clock + Sync>(
     rt: &R,

@@ -48,7 +48,7 @@ fn over_ring(rt: &(impl Threads + Sync), alloc: Global) -> Option<Net> {
     opened(rt, alloc, ring, (Kind::Shortest, 0), (1_024, 4_096, 0))
 }
 
-// 64 packets from each of 64 nodes of a ring, each to the 31st node behind its source, and a drain.
+// 64 packets from each of 64 nodes of a ring, each to the 31st node after its source, and a drain.
 fn around(alloc: Global) -> Option<Vec<Command>> {
     let mut commands = Vec::new(alloc);
     for id in 0..4_096u16 {
@@ -72,8 +72,8 @@ fn next_around(hops: &[u16], source: u16) -> Option<u16> {
     Some(next)
 }
 
-// Whether a record is that of the packet of this number, and its hops a beginning of its walk: the whole walk where it
-// was delivered, and else less, as where it was dropped since the channel to the node that follows was full.
+// Whether a record is that of the packet of this number, and its hops a beginning of its walk. They are the whole walk
+// where it was delivered. Else they are less, as where it was dropped since the channel to the next node was full.
 fn is_sound(record: &Record, id: u16) -> bool {
     let source = id / 64;
     let hops = record.hops.as_slice();

@@ -1,5 +1,5 @@
-//! Worked runs by hand and between threads: of channels, of the registry of plans and of the board; of plans whose rows
-//! are made by a crew, over the numbers of a tour too, and of runs whose plans are; of whole nets; and live runs.
+//! Worked runs by hand and between threads: of channels, of the registry of plans, of the board, of whole nets, and
+//! live runs. Also of plans whose rows are made by a crew, over the numbers of a tour too, and of runs whose plans are.
 #![tactic(auto)]
 
 #[cfg(test)]

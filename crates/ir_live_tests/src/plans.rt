@@ -13,7 +13,7 @@ use ir_tables::Topology;
 use std::alloc::Global;
 use std::test::Fail;
 
-// Links each of so many nodes, n0 to the last, to the next one and to the third one behind it, with weights from 1 to
+// Links each of so many nodes, n0 to the last, to the next one and to the third one after it, with weights from 1 to
 // 7, and answers whether it could.
 fn link_chain(graph: &mut Graph, alloc: Global, nodes: u16) -> bool {
     for u in 0..nodes {

@@ -140,8 +140,8 @@ impl Row {
         port
     }
 
-    /// What `find` answers, and the number of starts that were compared with the label: those that halve the row until
-    /// none is left, at most as many as `len()` has binary digits, and at most one less.
+    /// What `find` answers, and the number of starts that were compared with the label. Those halve the row until none
+    /// is left: at most as many as `len()` has binary digits, and at most one less.
     pub fn find_counted(&self, label: u16) -> (u16, u32)
         requires { 0 < length self.now }
         ensures port { (n : ℕ) → label < n → HasPort n self.now label result.0 }

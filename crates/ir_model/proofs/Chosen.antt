@@ -12,7 +12,7 @@ use Rattle.ir_model.proofs.Spread.{some_start, runs_from_start}
 use Rattle.ir_model.proofs.Runs.{set_of, length-set_of, set_fits, run_ports_may, runs_same}
 
 module _ (n own : ℕ) (may : ℕ → ℕ → Type 0) (valid : AreChoices n own may) where
-  -- a label off the own one comes behind it
+  -- a label off the own one comes after it
   pub off_place : (d : ℕ) → d < n → d ≢ own → (t : ℕ) × (0 < t) × (t < n) × (label_from n own t ≡ d)
   off_place d l ne =
       let w = place_from n own d valid.has_own l in

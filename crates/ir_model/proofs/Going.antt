@@ -29,7 +29,7 @@ from_from n s i (suc j) = let e : suc (j + i) ≡ suc j + i = omega arith in ap 
 pub from_before : (n s i : ℕ) → s < n → label_before n (label_from n s (suc i)) ≡ label_from n s i
 from_before n s i h = before_after n (label_from n s i) (from_is_label n s i h)
 
--- where one is: on the way to the last label, or behind the seam
+-- where one is: on the way to the last label, or after the seam
 pub from_where : (n s i : ℕ) → s < n → i ≤ n → ((s + i < n) × (label_from n s i ≡ s + i)) ⊎ ((n ≤ s + i) × (label_from n s i + n ≡ s + i))
 from_where n s zero h l = inl (omega arith, omega arith)
 from_where n s (suc i) h l =

@@ -25,7 +25,7 @@ landmark_unique net landmarks d l m r s a b =
     (λ same. ⊎_elim (λ more. absurd (omega (arith, same.0, more))) (λ more. (omega (arith, same.1, more.1), same.0)) (b.nearest l r a.among a.away))
     (a.nearest m s b.among b.away)
 
--- what the bound is, and what the test tells, in each case
+-- what the bound is, and what the test says, in each case
 pub data Cases (stretch away radius around bound : ℕ) : Type 0 where
   round_far : 100 * away + 200 * radius ≤ stretch * away → bound ≡ around + radius → Cases stretch away radius around bound
   straight_near : stretch * away < 100 * away + 200 * radius → bound ≡ away → Cases stretch away radius around bound

@@ -18,7 +18,7 @@ first_least : (x : ℕ) (xs : List ℕ) (d : ℕ) → Rises (x ∷ xs) → Conta
 first_least x xs d rises (zero, within, is) = omega (arith, is)
 first_least x xs d rises (suc k, within, is) = omega (arith, is, rises 0 (suc k) d (omega arith) within)
 
--- what stands after the first label is greater
+-- what is after the first label is greater
 later_greater : (x : ℕ) (xs : List ℕ) (d : ℕ) → Rises (x ∷ xs) → Contains xs d → x < d
 later_greater x xs d rises (k, within, is) = omega (arith, is, rises 0 (suc k) d (omega arith) (omega (arith, within)))
 

@@ -49,7 +49,7 @@ lines_at (b ∷ c ∷ cs) (suc n) e h =
     ∙ ap (onto_first b) (lines_at (c ∷ cs) n on.1 (omega arith))
 
 module _ (test : ℕ → Bool) where
-  -- the pieces behind the first
+  -- the pieces after the first
   abbrev pub behind : List ℕ → List Name
   behind [] = []
   behind (c ∷ cs) = pieces test cs
@@ -68,7 +68,7 @@ words_behind [] e = refl
 words_behind (c ∷ cs) e =
     sym (ap (λ t. filter (λ w. not (is_empty w)) (cond t ([] ∷ pieces is_blank cs) (onto_first c (pieces is_blank cs)))) (not-true-false (is_blank c) (stops (λ b. not (is_blank b)) c cs e)))
 
--- the first word, where no blank stands before it
+-- the first word, where no blank is before it
 word_first : (bs : List ℕ) (n : ℕ) → prefix_len (λ b. not (is_blank b)) bs ≡ suc n → words_of bs ≡ take (suc n) bs ∷ words_of (drop (suc n) bs)
 word_first [] n e = absurd (omega (arith, e))
 word_first (b ∷ bs) n e =
@@ -83,7 +83,7 @@ words_skip (b ∷ bs) (suc n) e =
     let on = goes_on is_blank b bs n e in
     words_skip bs n on.1 ∙ sym (ap (λ t. filter (λ w. not (is_empty w)) (cond t ([] ∷ pieces is_blank bs) (onto_first b (pieces is_blank bs)))) on.0)
 
--- what is left behind the blanks begins with a word, or is empty
+-- what is left after the blanks begins with a word, or is empty
 starts_word : (bs : List ℕ) → prefix_len is_blank bs ≡ 0 → 0 < length bs → 0 < prefix_len (λ b. not (is_blank b)) bs
 starts_word [] e h = absurd (omega arith)
 starts_word (b ∷ bs) e h =

@@ -11,7 +11,7 @@ use Rattle.ir_model.proofs.Fewest.{reaches_back, moved, moved_own, moved_other}
 use Rattle.ir_model.proofs.Pigeonhole.{Mem, mem_at, without, shorter, keeps}
 use Rattle.ir_model.proofs.Going.{from_is_label, from_from, from_before, from_differs}
 
--- places that rise from lo on, below n, whose labels stand in a list
+-- places that rise from lo on, below n, whose labels are in a list
 abbrev pub Rise : ℕ → ℕ → ℕ → List ℕ → List ℕ → Type 0
 Rise n s lo ys [] = Unit {0}
 Rise n s lo ys (t ∷ ts) = (lo ≤ t) × (t < n) × Mem ys (label_from n s t) × Rise n s (suc t) ys ts
@@ -43,7 +43,7 @@ module _ (n own : ℕ) (may : ℕ → ℕ → Type 0) (two : 1 < n) (valid : Are
       let w = valid.some a label ne in
       is.longest w.0 1 (omega arith) (λ i l _. let z : i ≡ 0 = omega arith in subst (λ (k : ℕ). may (label_from n a k) w.0) (sym z) w.1)
 
-  -- behind a longest run that doesn't end the round the own label doesn't stand
+  -- after a longest run that doesn't end the round the own label does not come
   pub behind_differs : (s c : ℕ) (run : Run) → c + run.count < n → IsLongestRun n own may (label_from n s c) run → label_from n s (c + run.count) ≢ own
   behind_differs s c run inside is = λ e.
       let more : Serves n own may run.port (label_from n s c) (suc run.count) = λ i l ne.
@@ -84,7 +84,7 @@ module _ (n own : ℕ) (may : ℕ → ℕ → Type 0) (two : 1 < n) (valid : Are
               ]
         ]
 
-    -- behind each longest run that doesn't end the round, a member of the set begins in the run or just behind it
+    -- after each longest run that doesn't end the round, a member of the set begins in the run or just after it
     pub begins_in : (s c : ℕ) (run : Run) → s < n → c + run.count < n → IsLongestRun n own may (label_from n s c) run
         → (t : ℕ) × (c < t) × (t ≤ c + run.count) × Mem moved_starts (label_from n s t)
     begins_in s c run h inside is =
@@ -123,7 +123,7 @@ module _ (n own : ℕ) (may : ℕ → ℕ → Type 0) (two : 1 < n) (valid : Are
               absurd (let bad : suc run.count ≤ run.count = le in omega arith)
         ]
 
-    -- so for each run behind a longest run there is a member of its own
+    -- so for each run after a longest run there is a member of its own
     spread : (s c : ℕ) (run : Run) (runs : List Run) → s < n → IsLongestRun n own may (label_from n s c) run → GoOn n own may s (c + run.count) runs
         → (ts : List ℕ) × (length ts ≡ length runs) × Rise n s (suc c) moved_starts ts
     spread s c run [] h is go = ([], refl, tt)

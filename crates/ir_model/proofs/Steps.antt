@@ -41,7 +41,7 @@ HaveStepPorts n own counts ports s i (suc k) held =
     ((j : ℕ) → i ≤ j → j < next_place n counts s i → j < n → label_from n s j ≢ own → port_to held (label_from n s j) ≡ Some (slice_index ports (label_from n s i)))
     × HaveStepPorts n own counts ports s (next_place n counts s i) k held
 
--- the first label with the fewest steps, of the labels up to the end of the run that begins behind the own label
+-- the first label with the fewest steps, of the labels up to the end of the run that begins after the own label
 pub record IsFirstNear (n own : ℕ) (counts : List ℕ) (t : ℕ) : Type 0 where
   pub off_own : 0 < t
   pub in_round : t < n
@@ -143,7 +143,7 @@ module _ (n own : ℕ) (may : ℕ → ℕ → Type 0) (two : 1 < n) (valid : Are
         let r = runs_with_ports held (next_place n counts s i) k (next_off n own counts longest_are_steps s label i (off go.0)) go.1 have.1 in
         (run_in counts ports a ∷ r.0, (go.0, longest a (from_is_label n s i label) (off go.0), r.1), (have.0, r.2))
 
-  -- the longest runs from the label t places behind the own one
+  -- the longest runs from the label t places after the own one
   runs_at : (t k : ℕ) → 0 < t → t < n → Steps n counts (label_from n own t) 0 k → (runs : List Run) × AreRunsFrom n own may t runs × (length runs ≡ k)
   runs_at t k some l go = runs_of (label_from n own t) (from_is_label n own t valid.has_own) 0 k (λ _. off_own n own may valid t some l) go
 

@@ -1,11 +1,11 @@
--- Walks the other way round, and one behind the other.
+-- Walks the other way round, and one after the other.
 use Rattle.std.proofs.Common.{◌≡◌, ℕ, ◌+◌, ◌<◌, ◌≤◌, List, [], ◌∷◌, ◌++◌, refl, sym, subst, ◌∙◌, arith}
 use Rattle.ir_model.specs.Topology.{Topology, node_count, port_back, IsTopology}
 use Rattle.ir_model.specs.Walk.{Linked, link_weight, LeadsTo, IsWalk, weight_from, walk_weight, IsDistance}
 use Rattle.ir_model.proofs.Walks.{link_weight_at, leads_from_node}
 use Rattle.ir_model.proofs.Tables.{distance_way}
 
--- one way behind another
+-- one way after another
 pub joined : (net : Topology) (u v d : ℕ) (rest more : List ℕ) → LeadsTo net u v rest → LeadsTo net v d more
     → LeadsTo net u d (rest ++ more) × (weight_from net u (rest ++ more) ≡ weight_from net u rest + weight_from net v more)
 joined net u v d [] more way on =

@@ -39,7 +39,7 @@ pub record IsLongestRun (n own : ℕ) (may : ℕ → ℕ → Type 0) (a : ℕ) (
   pub longest : (p count : ℕ) → count ≤ n → Serves n own may p a count → count ≤ run.count
   pub least : (p : ℕ) → Serves n own may p a run.count → run.port ≤ p
 
--- going on from the place i after the label s, these are the longest runs, one behind the other, until the round is done
+-- going on from the place i after the label s, these are the longest runs, one after the other, until the round is done
 abbrev pub GoOn : ℕ → ℕ → (ℕ → ℕ → Type 0) → ℕ → ℕ → List Run → Type 0
 GoOn n own may s i [] = n ≤ i
 GoOn n own may s i (run ∷ rest) = (i < n) × IsLongestRun n own may (label_from n s i) run × GoOn n own may s (i + run.count) rest

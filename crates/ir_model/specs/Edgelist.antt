@@ -8,7 +8,7 @@ use Rattle.ir_model.specs.Text.{content, words, is_plain, is_empty, nodes_pass, 
 use Rattle.ir_model.specs.declared.Fault.{Fault}
 use Rattle.ir_model.specs.declared.Fault.TheVariants.{BadByte, BadName, BadRow, BadWeight, TooManyNodes, TooManyEdges}
 
--- ---- a weight: decimal digits, behind which a point and zeros may stand
+-- ---- a weight: decimal digits, after which a point and zeros may come
 
 abbrev pub is_digit : ℕ → Bool
 is_digit b = nat_le 48 b && nat_le b 57
@@ -22,7 +22,7 @@ abbrev pub is_zero_fraction : List ℕ → Bool
 is_zero_fraction [] = true
 is_zero_fraction (point ∷ zeros) = point == 46 && not (is_empty zeros) && list_all (λ b. b == 48) zeros
 
--- what stands before the first point, and the point with what stands behind it
+-- what is before the first point, and the point with what follows it
 abbrev pub whole : Name → List ℕ
 whole word = take_while (λ b. not (b == 46)) word
 
@@ -69,7 +69,7 @@ abbrev pub weight_fault : List Pair → Name → Name → Option ℕ → Option 
 weight_fault pairs u v None = Some BadWeight
 weight_fault pairs u v (Some w) = limit_fault (pairs ++ (u, v, w) ∷ [])
 
--- the fault of what stands behind two ends
+-- the fault of what follows two ends
 abbrev pub ending_fault : List Pair → Name → Name → List Name → Option Fault
 ending_fault pairs u v (word ∷ []) = weight_fault pairs u v (spelled_weight word)
 ending_fault pairs u v words = Some BadRow
@@ -80,7 +80,7 @@ edge_row_fault pairs (u ∷ v ∷ words) =
     if not (nat_le (length u) MAX_NAME_BYTES && nat_le (length v) MAX_NAME_BYTES) then Some BadName else ending_fault pairs u v words
 edge_row_fault pairs words = None
 
--- the fault of a line, behind the lines before it
+-- the fault of a line, after the lines before it
 abbrev pub edge_line_fault : List (List ℕ) → List ℕ → Option Fault
 edge_line_fault before line = if not (list_all is_plain (content line)) then Some BadByte else edge_row_fault (edges_in before) (words line)
 

@@ -27,7 +27,7 @@ pub record IsMostLinked (net : Topology) (before : List ℕ) (x : ℕ) : Type 0 
   pub outside : Contains before x → ⊥
   pub most : (v : ℕ) → v < node_count net → (Contains before v → ⊥) → (length (ports_of net v) < length (ports_of net x)) ⊎ ((length (ports_of net v) ≡ length (ports_of net x)) × (x ≤ v))
 
--- The landmarks of a plan: the root, and behind it the most linked nodes; at most so many, and fewer where each node is one.
+-- The landmarks of a plan: the root, and after it the most linked nodes; at most so many, and fewer where each node is one.
 pub record AreMostLinked (net : Topology) (root count : ℕ) (landmarks : List ℕ) : Type 0 where
   pub root_first : slice_index landmarks 0 ≡ root
   pub some : 0 < length landmarks
@@ -40,8 +40,8 @@ abbrev pub IsOnTheWay : Topology → ℕ → ℕ → ℕ → Type 0
 IsOnTheWay net v d x =
     (p : ℕ) × (hop : Hop) × (rest : ℕ) × (port_at net v p ≡ Some hop) × (hop.node ≡ x) × IsDistance net x d rest × IsDistance net v d (hop.weight + rest)
 
--- The parent of v in the tree of its block, the nodes of one landmark: of the neighbours on shortest ways from v to the
--- landmark the one with the least number; the landmark is its own.
+-- The parent of v in the tree of its block, the nodes of one landmark. It is, of the neighbours on shortest ways from v
+-- to the landmark, the one with the least number. The landmark is its own.
 pub record IsBlockParent (net : Topology) (landmarks : List ℕ) (v parent : ℕ) : Type 0 where
   pub landmark : ℕ
   pub radius : ℕ
@@ -54,7 +54,7 @@ pub record IsBlockParent (net : Topology) (landmarks : List ℕ) (v parent : ℕ
 abbrev pub sons_of : Topology → (ℕ → ℕ) → ℕ → List ℕ
 sons_of net parent u = filter (λ v. parent v == u) (neighbors_of net u)
 
--- the nodes that may follow u: its sons, and behind those of the first landmark the other landmarks
+-- the nodes that may follow u: its sons, and after those of the first landmark the other landmarks
 abbrev pub followers : Topology → List ℕ → (ℕ → ℕ) → ℕ → List ℕ
 followers net landmarks parent u = sons_of net parent u ++ (if slice_index landmarks 0 == u then drop 1 landmarks else [])
 

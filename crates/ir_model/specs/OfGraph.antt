@@ -28,7 +28,7 @@ port_of g x e = record { node = place_of g e.0; link = link_number g x e.0; weig
 abbrev pub node_ports : Adjacency → Name → Neighbors → List Hop
 node_ports g x es = map (port_of g x) (filter (λ e. not (bytes_eq x e.0)) es)
 
--- The network of a graph: its nodes are places in node order, its links are the edges without the self-loops, in edge
+-- The network of a graph. Its nodes are places in node order, its links are the edges without the self-loops, in edge
 -- order, and the ports of a node are its other neighbours in adjacency order.
 abbrev pub topology_of_graph : Adjacency → Topology
 topology_of_graph g = record { links = map (link_of g) (link_edges g); ports = map (λ r. node_ports g r.0 r.1) g }

@@ -16,7 +16,7 @@ neighbors_at g i = option_map_or (λ r. r.1) (slice_get g i) []
 abbrev pub neighbor_at : Adjacency → ℕ → ℕ → Option (ℕ × ℕ)
 neighbor_at g i p = option_map {U = ℕ × ℕ} (λ e. (place_of g e.0, e.1)) (slice_get (neighbors_at g i) p)
 
--- the neighbours of the node at a place that do not stand before it as nodes
+-- the neighbours of the node at a place that are not before it as nodes
 abbrev pub later_neighbors : Adjacency → ℕ → Neighbors
 later_neighbors g i = filter (λ e. not (among (take i (names g)) e.0)) (neighbors_at g i)
 

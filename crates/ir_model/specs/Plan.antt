@@ -13,8 +13,8 @@ use Rattle.ir_model.specs.Compiled.{IsCanonical}
 use Rattle.ir_model.specs.Compact.{IsCompactTable}
 use Rattle.ir_model.specs.Landmark.{AreMostLinked, IsLandmarkTable}
 
--- A plan, which is a routing scheme by intervals: the kind and root that it was built with, its network, the nodes by label, the
--- label of each node, the full table's port at each node, by destination, and each node's row.
+-- A plan, which is a routing scheme by intervals. It has the kind and root that it was built with, its network, the
+-- nodes by label, the label of each node, the full table's port at each node, by destination, and each node's row.
 pub record Plan : Type 0 where
   pub kind : Kind
   pub root : ℕ
@@ -48,7 +48,7 @@ abbrev pub by_label : Plan → ℕ → List (Option ℕ)
 by_label s u = map (table_port s u) s.order
 
 -- the full table of a kind over a network: the shortest table, the tree table of a numbering, the compact table of its
--- labels, or that within the bound by the landmarks of its first node
+-- labels, or that within the bound by its first node's landmarks
 abbrev pub IsTableOf : Kind → Topology → List ℕ → List ℕ → (ℕ → ℕ → Option ℕ) → Type 0
 IsTableOf Shortest net order parents table = IsShortestTable net table
 IsTableOf Tree net order parents table = IsTreeTable net order parents table
@@ -65,9 +65,9 @@ pub record AreLabels (n : ℕ) (order labels : List ℕ) : Type 0 where
   pub there : (u : ℕ) → u < n → slice_index order (slice_index labels u) ≡ u
   pub back : (a : ℕ) → a < n → slice_index labels (slice_index order a) ≡ a
 
--- What is true of every plan: each node has one label, the root the first, and in a tree plan the labels are depth-first
--- numbers from the root; its table is the full table of its kind over its network, whose prescribed walks exist and are
--- short, and its rows are the canonical ones of that table.
+-- What is true of every plan: each node has one label, the root the first, and in a tree plan the labels are
+-- depth-first numbers from the root. Its table is the full table of its kind over its network, whose prescribed walks
+-- exist and are short. Its rows are the canonical ones of that table.
 pub record IsPlan (s : Plan) : Type 0 where
   pub topology : IsTopology s.topology
   pub connected : IsConnected s.topology

@@ -25,7 +25,7 @@ lines (b ∷ bs) = if b == 10 then [] ∷ lines bs else onto_first b (lines bs)
 abbrev pub is_blank : ℕ → Bool
 is_blank b = b == 32 || nat_le 9 b && nat_le b 13 && not (b == 10)
 
--- what stands before the first `#`
+-- what is before the first `#`
 abbrev pub content : List ℕ → List ℕ
 content line = take_while (λ b. not (b == 35)) line
 
@@ -64,7 +64,7 @@ nodes_pass names = nat_lt MAX_NODES (length (distinct names))
 abbrev pub edges_pass : List Name → List Pair → Bool
 edges_pass names pairs = nat_lt MAX_EDGES (length (edges (graph_of names pairs)))
 
--- the first limit that the targets pass, behind these names and pairs
+-- the first limit that the targets pass, after these names and pairs
 abbrev pub targets_fault : List Name → List Pair → Name → List Name → Option Fault
 targets_fault names pairs source [] = None
 targets_fault names pairs source (target ∷ targets) =
@@ -77,7 +77,7 @@ row_fault names pairs [] = None
 row_fault names pairs (source ∷ targets) =
     if nodes_pass (names ++ source ∷ []) then Some TooManyNodes else targets_fault (names ++ source ∷ []) pairs source targets
 
--- the fault of a line, behind the lines before it
+-- the fault of a line, after the lines before it
 abbrev pub line_fault : List (List ℕ) → List ℕ → Option Fault
 line_fault before line =
     if not (list_all is_plain (content line)) then Some BadByte

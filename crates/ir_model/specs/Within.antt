@@ -30,7 +30,7 @@ pub record KeepsBound (net : Topology) (bound : ℕ → ℕ → ℕ → Type 0) 
 abbrev pub MayLead : Topology → (ℕ → ℕ → ℕ → Type 0) → List ℕ → ℕ → ℕ → ℕ → Type 0
 MayLead net bound order a d p = LeadsWithin net bound (slice_index order a) (slice_index order d) p
 
--- The table of the nodes in order of their labels that keeps to a bound with the fewest intervals: the ports of each
+-- The table of the nodes in order of their labels that keeps to a bound with the fewest intervals. The ports of each
 -- node are, by label, the chosen ones of those that lead within it.
 pub record IsTableWithin (net : Topology) (bound : ℕ → ℕ → ℕ → Type 0) (order : List ℕ) (table : ℕ → ℕ → Option ℕ) : Type 0 where
   pub keeps : KeepsBound net bound table

@@ -1,5 +1,5 @@
 //! The definitions that every crate of the network shares: texts and graphs, networks and walks, full tables,
-//! depth-first numberings, cyclic intervals and rows. They stand in `specs/`; here are the limits, the plain records
+//! depth-first numberings, cyclic intervals and rows. They are in `specs/`; here are the limits, the plain records
 //! that contracts and getters speak of, and laws of the definitions.
 #![tactic(auto)]
 
@@ -71,9 +71,9 @@ pub struct Detour {
     pub ghost most: { stretch ≤ 300 },
 }
 
-/// How a plan routes: along the tree of its depth-first numbers (Santoro and Khatib 1985), along shortest ways by the
-/// least ports (van Leeuwen and Tan 1987), along shortest ways with the fewest intervals at each node, or with the fewest
-/// along ways that may go round by landmarks (Cowen 2001; Thorup and Zwick 2001).
+/// How a plan routes: along the tree of its depth-first numbers (Santoro and Khatib 1985), or along shortest ways by
+/// the least ports (van Leeuwen and Tan 1987). Or along shortest ways with the fewest intervals at each node, or with
+/// the fewest along ways that may go round by landmarks (Cowen 2001; Thorup and Zwick 2001).
 #[derive(Clone, Copy, Debug, PartialEq, Eq)]
 pub enum Kind {
     Tree,

@@ -47,7 +47,7 @@ module _ (n : ℕ) (parents : List ℕ) (nest : IsNested n parents) (a : ℕ) wh
   under_above itself h = omega arith
   under_above (child i from u) h = let l = nest.lower i from h in let r = under_above u (omega arith) in omega arith
 
-  -- what stands between a place and its parent is under what the parent is under
+  -- what is between a place and its parent is under what the parent is under
   between : (fuel k j i : ℕ) → k ≤ fuel → j < k → k < i → i < n → slice_index parents i ≡ j → IsUnder parents a j → IsUnder parents a k
   between zero k j i f lt lt' h e u = absurd (omega arith)
   between (suc fuel) k j i f lt lt' h e u =
@@ -88,7 +88,7 @@ module _ (n : ℕ) (parents : List ℕ) (nest : IsNested n parents) (a : ℕ) wh
   not_under itself lt out h = omega arith
   not_under (child e from u) lt out h = let l = nest.lower e from h in let r = under_above u (omega arith) in omega arith
 
-  -- the subtree ends where a parent stands before the place
+  -- the subtree ends where a parent is before the place
   pub subtree_ends : (end : ℕ) → a < end → end ≤ n → ((k : ℕ) → a < k → k < end → a ≤ slice_index parents k) → (end < n → slice_index parents end < a) → IsSubtree n parents a (end - a)
   subtree_ends end from to all last = record {
     within = omega arith;
@@ -130,7 +130,7 @@ module _ (n : ℕ) (parents : List ℕ) (nest : IsNested n parents) (a : ℕ) wh
   parent_under itself ne = absurd (ne refl)
   parent_under (child d from u) ne = u
 
-  -- the parents of the places of a subtree, but of the first, stand in it
+  -- the parents of the places of a subtree, but of the first, are in it
   pub parents_inside : (size : ℕ) → IsSubtree n parents a size → (k : ℕ) → a < k → k < a + size → a ≤ slice_index parents k
   parents_inside size sub k from to =
       let within = sub.within in

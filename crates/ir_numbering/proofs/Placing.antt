@@ -67,7 +67,7 @@ in_range n q (x ∷ xs) each any =
     (λ later. in_range n q xs (λ a lt. each (suc a) (omega (arith, lt))) later)
     (or_cases (eqb q x) (list_any (eqb q) xs) any)
 
--- what stands at a place, whatever would stand past the end
+-- what is at a place, whatever would be past the end
 get_or_within : (xs : List ℕ) (k c d : ℕ) → k < length xs → slice_index_or xs k c ≡ slice_index_or xs k d
 get_or_within [] k c d lt = absurd (omega (arith, lt))
 get_or_within (x ∷ xs) zero c d lt = refl

@@ -1,4 +1,4 @@
--- The sons of a node of a depth-first numbering stand in the order of the ports to them.
+-- The sons of a node of a depth-first numbering are in the order of the ports to them.
 use Rattle.std.proofs.Common.{◌≡◌, ℕ, ◌<◌, ◌≤◌, List, length, get_or, take, refl, sym, ◌∙◌, subst, inl, inr, arith}
 use Rattle.std.specs.Prelude.{slice_index, Contains}
 use Rattle.std.proofs.lemmas.Bool.{cases_lt, cases_eq}

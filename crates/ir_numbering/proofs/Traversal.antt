@@ -15,7 +15,7 @@ use Rattle.ir_numbering.specs.Search.{IsFirstUnmarked, AllMarked, ArePassed, IsC
 use Rattle.ir_numbering.specs.Numbering.{IsListing}
 use Rattle.ir_numbering.proofs.Neighbors.{neighbor_at}
 
--- nodes seen so far, the place of each one's parent, and the places on the way from the root to the node where the search stands
+-- nodes seen so far, the place of each one's parent, and the places on the way from the root to the node where the search is
 pub record IsTraversal (adjacent : ℕ → List ℕ) (n root : ℕ) (order parents stack : List ℕ) : Type 0 where
   pub started : 0 < length order
   pub root_first : slice_index order 0 ≡ root
@@ -154,7 +154,7 @@ module _ (net : Topology) (root : ℕ) (nodes : List ℕ) (c : IsClosed (neighbo
   walk_is_closed v [] walk = absurd walk
   walk_is_closed v (x ∷ rest) walk = let way : LeadsTo net root v rest = walk.1 in closed_along root v rest way c.root_in
 
--- a number stands at one of the first m places, or at none
+-- a number is at one of the first m places, or at none
 at_some_place : (xs : List ℕ) (v m : ℕ) → m ≤ length xs → Contains xs v ⊎ ((k : ℕ) → k < m → get_or xs k v ≡ v → ⊥)
 at_some_place xs v zero h = inr (λ k l e. omega arith)
 at_some_place xs v (suc m) h =
@@ -218,7 +218,7 @@ some_unseen n order few =
           absurd (omega arith)
     ]
 
--- which nodes the marks tell
+-- which nodes the marks show
 pub record IsMarked (n : ℕ) (order : List ℕ) (marks : List Bool) : Type 0 where
   pub every : length marks ≡ n
   pub seen : (v : ℕ) → v < n → get_or marks v false ≡ true → Contains order v
@@ -317,7 +317,7 @@ module _ (n : ℕ) (order : List ℕ) (is : IsListing n order) (v : ℕ) (label 
 pub listing_has : (n : ℕ) (order : List ℕ) → IsListing n order → (v : ℕ) → v < n → Contains order v
 listing_has n order is v label = elim (cases_contains order v) [ inl w ↦ w | inr off ↦ absurd (one_too_many n order is v label off) ]
 
--- what tells each number its place tells each place its number
+-- what gives each number its place gives each place its number
 pub are_labels : (n : ℕ) (order labels : List ℕ) → IsListing n order → length labels ≡ n
     → ((k : ℕ) → k < n → slice_index labels (slice_index order k) ≡ k) → AreLabels n order labels
 are_labels n order labels is len told =

@@ -4,7 +4,8 @@ use Rattle.ir_model.specs.Topology.{Topology, node_count}
 use Rattle.ir_model.specs.Subtree.{IsUnder}
 use Rattle.ir_numbering.specs.Numbering.{IsPortTo}
 
--- what the node at the place a holds for the place i: nothing for its own, the port to the son that i is under, and the port to its parent where i is not under a
+-- what the node at the place a holds for the place i: nothing for its own, the port to the son that i is under, else
+-- the port to its parent
 pub record IsTreeCell (net : Topology) (order parents : List ℕ) (a i : ℕ) (port : Option ℕ) : Type 0 where
   pub own : i ≡ a → port ≡ None
   pub son : (c : ℕ) → 0 < c → c < node_count net → slice_index parents c ≡ a → IsUnder parents c i

@@ -32,7 +32,7 @@ OthersAreAnInterval = (adjacent : ℕ → List ℕ) (n root u v size : ℕ) (ord
     → (IsBelow order parents u v → ⊥) ↔ InInterval n (end_label n (slice_index numbers u) size) (slice_index numbers u) (slice_index numbers v)
 
 -- The canonical row of a node u for a tree table has a start at the label of each son, and, but at the root, one where
--- the labels of the subtree of u end; it has no other start.
+-- the labels of the subtree of u end. It has no other start.
 abbrev pub TreeRowsStartAtSons : Type 0
 TreeRowsStartAtSons = (net : Topology) (root u size : ℕ) (order parents numbers : List ℕ) (table : ℕ → ℕ → Option ℕ) (row : List Start)
     → IsTopology net → IsDepthFirst (neighbors_of net) (node_count net) root order parents → AreLabels (node_count net) order numbers

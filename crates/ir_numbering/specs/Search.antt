@@ -1,4 +1,4 @@
--- What a search tells by its marks.
+-- What a search shows by its marks.
 use Rattle.std.specs.Prelude.{◌≡◌, ℕ, ◌<◌, List, [], Bool, true, false, All, Contains, length, map, slice_index, slice_index_or}
 use Rattle.std.specs.Global.{Vec}
 use Rattle.ir_model.specs.Topology.{Topology, node_count}

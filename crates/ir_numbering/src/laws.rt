@@ -7,8 +7,8 @@ pub fn subtrees_are_intervals()
     ensures others { OthersAreAnInterval }
 {}
 
-/// The canonical row of a node for a tree table has one start for each son, at the son's label, and, but at the root,
-/// one for the father, where the labels of the node's subtree end; and no other (Santoro and Khatib 1985).
+/// The canonical row of a node for a tree table has one start for each son, at the son's label. Except at the root it
+/// has one for the father too, where the labels of the node's subtree end. It has no other (Santoro and Khatib 1985).
 pub fn tree_rows_start_at_sons()
     ensures { TreeRowsStartAtSons }
 {}

@@ -33,8 +33,8 @@ impl Model for Numbering {
 }
 
 impl Numbering {
-    /// Numbering the nodes depth first from the root. The next node is the first neighbour, in port order, without a
-    /// number of the node that was numbered last and still has one.
+    /// Numbering the nodes depth first from the root. From the last numbered node
+    /// that still has neighbours without a number, the first such neighbour in port order is next.
     ///
     /// NoNode exactly where the root is no node of the topology, then Disconnected where some node has no walk to
     /// some node; NoMemory where a growth was refused, which may come before Disconnected is known. Takes O(n + m),
@@ -152,8 +152,9 @@ impl Numbering {
     }
 }
 
-/// The tree table of a numbering of this topology: at a node and a destination the port to the second node of the path
-/// between them in the tree of the numbering, and none where they are one node. Its distances weigh these paths.
+/// The tree table of a numbering of this topology. At a node and a destination it has the port to the second node of
+/// the path between them in the tree of the numbering, and none where they are one node. Its distances weigh these
+/// paths.
 ///
 /// Condition: the numbering is of the topology. It is refused for want of memory alone. Takes O(n * n + q), for n
 /// nodes and q the sum of the squares of the degrees. For users of the library.

@@ -21,7 +21,7 @@ pub fn subtree_sizes(alloc: Global, parents: &[usize]) -> Result<Vec<u16>, Alloc
     Ok(sizes)
 }
 
-// How many places there are in the subtree of a place, by the sizes of those that begin behind it.
+// How many places there are in the subtree of a place, by the sizes of those that begin after it.
 fn subtree_size(parents: &[usize], sizes: &[u16], place: usize) -> usize
     requires nested { IsNested (length parents.now) parents.now }
     requires place { place < length parents.now }

@@ -1,4 +1,4 @@
--- The rows of batches of nodes, one batch behind the other.
+-- The rows of batches of nodes, one batch after the other.
 use Rattle.std.proofs.Common.{◌≡◌, ℕ, zero, suc, Ok, ◌+◌, ◌-◌, ◌*◌, ◌<◌, ◌≤◌, List, [], ◌∷◌, ◌++◌, length, map, flat_map, refl, sym, subst, inl, inr, arith}
 use Rattle.std.specs.Prelude.{IfOk, slice_index, slice_index_or}
 use Rattle.std.specs.Global.{Vec}
@@ -15,7 +15,7 @@ use Rattle.ir_model.specs.Row.{Start}
 use Rattle.ir_plan.specs.NodeRows.{IsNodeRow, AreNodeRows, AreRowsFrom}
 
 module _ (kind : Kind) (net : Topology) (order parents labels : List ℕ) where
-  -- rows of some nodes, and behind them those of the next ones
+  -- rows of some nodes, and after them those of the next ones
   pub rows_behind : (first most more : ℕ) (rows others : List (List Start)) → AreRowsFrom kind net order parents labels first most rows → AreRowsFrom kind net order parents labels (first + most) more others
       → AreRowsFrom kind net order parents labels first (most + more) (rows ++ others)
   rows_behind first most more rows others front back =
@@ -48,7 +48,7 @@ module _ (kind : Kind) (net : Topology) (order parents labels : List ℕ) where
         each = λ u l. let e : 0 + u ≡ u = omega arith in subst (λ (v : ℕ). IsNodeRow kind net order parents (slice_index labels v) (slice_index_or rows u [])) e (are.each u (omega (arith, l, every)));
       }
 
-  -- the rows of the batches of a range, one behind the other
+  -- the rows of the batches of a range, one after the other
   pub rows_in_batches : (b k : ℕ) (made : List (Vec (List Start)))
       → AllZip (λ (i : ℕ) (one : Result (Vec (List Start)) AllocError). IfOk one (λ (v : Vec (List Start)). AreRowsFrom kind net order parents labels (i * 16) 16 v.items)) (range_with_len b k) (map Ok made)
       → AreRowsFrom kind net order parents labels (b * 16) (k * 16) (flat_map (λ (v : Vec (List Start)). v.items) made)
@@ -64,7 +64,7 @@ module _ (kind : Kind) (net : Topology) (order parents labels : List ℕ) where
       (subst (λ (m : ℕ). AreRowsFrom kind net order parents labels (b * 16) m (x.items ++ flat_map items xs)) most
       (rows_behind (b * 16) 16 (k * 16) x.items (flat_map items xs) zipped.0 later))
 
-  -- the rows of enough batches, one behind the other, are those of all nodes
+  -- the rows of enough batches, one after the other, are those of all nodes
   pub made_in_batches : (count : ℕ) (made : List (Vec (List Start))) → node_count net ≤ count * 16
       → AllZip (λ (i : ℕ) (one : Result (Vec (List Start)) AllocError). IfOk one (λ (v : Vec (List Start)). AreRowsFrom kind net order parents labels (i * 16) 16 v.items)) (range_with_len 0 count) (map Ok made)
       → AreNodeRows kind net order parents labels (node_count net) (flat_map (λ (v : Vec (List Start)). v.items) made)
@@ -72,7 +72,7 @@ module _ (kind : Kind) (net : Topology) (order parents labels : List ℕ) where
       rows_of_all (count * 16) (flat_map (λ (v : Vec (List Start)). v.items) made) enough
       (rows_in_batches 0 count made zipped)
 
--- one more row behind those of the first nodes
+-- one more row after those of the first nodes
 pub read_more : (P : ℕ → List Start → Type 0) (k : ℕ) (rows more : List (List Start)) (row : List Start) → length rows ≡ k → ((i : ℕ) → i < k → P i (slice_index_or rows i [])) → more ≡ rows ++ row ∷ [] → P k row
     → (length more ≡ k + 1) × ((i : ℕ) → i < k + 1 → P i (slice_index_or more i []))
 read_more P k rows more row every each is own =

@@ -55,7 +55,7 @@ module _ (net : Topology) (ok : IsTopology net) (order labels : List ℕ) (named
         best_same (node_count net) own (MayTake net order own) p a (slice_index counts a) (slice_index ports a) off none (before.best a l off);
   }
 
-  -- behind the last port
+  -- after the last port
   pub runs_all : (m : ℕ) (counts ports : List ℕ) → length (ports_of net u) ≤ m → AreBestRuns net order labels u m counts ports → AreLongestRuns net order (slice_index labels u) counts ports
   runs_all m counts ports last runs = λ a l off.
       (let own = slice_index labels u in

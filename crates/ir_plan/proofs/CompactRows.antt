@@ -1,4 +1,4 @@
--- The tied ports of a node, and the marks that tell them.
+-- The tied ports of a node, and the marks that give them.
 use Rattle.std.proofs.Common.{◌≡◌, ◌≢◌, ◌↔◌, ℕ, ◌+◌, ◌<◌, ◌≤◌, None, Bool, true, false, List, [], ◌∷◌, length, replicate, set, Option, refl, ap, sym, ◌∙◌, subst, inl, inr, arith, get_or-set_same, get_or-set_other, length-set}
 use Rattle.std.specs.Prelude.{Contains, slice_index, slice_index_or}
 use Rattle.std.proofs.lemmas.Bool.{cases_eq, cases_lt}
@@ -47,7 +47,7 @@ tied_marked net order labels named u hu marks are = record {
 }
 
 module _ (net : Topology) (ok : IsTopology net) (order labels : List ℕ) (named : AreLabels (node_count net) order labels) (u : ℕ) (hu : u < node_count net) where
-  -- the marks of a port tell which labels may take it
+  -- the marks of a port say which labels may take it
   pub marks_may : (p : ℕ) (row : List Bool) → AreTiedMarks net order u p row → (d : ℕ) → MayTake net order (slice_index labels u) d p ↔ Marks row d
   marks_may p row are d =
       let there = named.there u hu in (
@@ -73,7 +73,7 @@ module _ (net : Topology) (ok : IsTopology net) (order labels : List ℕ) (named
       let at = has.every d may.0 ((marks_may p row are d).0 may) in
       omega (arith, at.1, none)
 
-  -- the words of the labels tell which ports they may take
+  -- the words of the labels say which ports they may take
   pub words_may : (words : List ℕ) → AreTied net order u words → length (ports_of net u) ≤ 32 → (d p : ℕ) → MayTakeBit (node_count net) words d p ↔ MayTake net order (slice_index labels u) d p
   words_may words are few d p =
       let there = named.there u hu in
@@ -140,7 +140,7 @@ pub record AreMarkedBelow (n : ℕ) (order nodes : List ℕ) (i : ℕ) (row : Li
   pub has : (d : ℕ) → d < n → slice_index_or row d false ≡ true → (k : ℕ) × (k < i) × (slice_index_or nodes k 0 ≡ slice_index order d)
   pub marks : (d k : ℕ) → d < n → k < i → slice_index_or nodes k 0 ≡ slice_index order d → slice_index_or row d false ≡ true
 
--- the first i of some nodes stand as their labels
+-- the first i of some nodes are there as their labels
 pub record AreRelabelled (labels nodes : List ℕ) (i : ℕ) (now : List ℕ) : Type 0 where
   pub every : length now ≡ length nodes
   pub done : (k : ℕ) → k < i → slice_index_or now k 0 ≡ slice_index labels (slice_index_or nodes k 0)
@@ -210,7 +210,7 @@ module _ (n : ℕ) (order labels : List ℕ) (named : AreLabels n order labels) 
         left = λ k lk. get_or-set_other now i k label 0 (λ e. omega (arith, lk, e)) ∙ so_far.left k (omega (arith, lk));
       }
 
-  -- what stands at the next place is a node still
+  -- what is at the next place is a node still
   pub next_node : (i x : ℕ) (now : List ℕ) → i < length nodes → ((d : ℕ) → Contains nodes d → d < n) → AreRelabelled labels nodes i now → x ≡ slice_index_or now i x → x < n
   next_node i x now l inside are is =
       let now_in : i < length now = omega (arith, l, are.every) in

@@ -1,4 +1,4 @@
--- Sums over the numbers below a bound, and how many of them stand in a list.
+-- Sums over the numbers below a bound, and how many of them are in a list.
 use Rattle.std.proofs.Common.{◌≡◌, ◌≢◌, ℕ, zero, suc, ◌+◌, ◌<◌, ◌≤◌, ◌==◌, cond, List, [], ◌∷◌, length, take, get_or, refl, ap, sym, ◌∙◌, subst, inl, inr, arith, add-one, eq-eqb}
 use Rattle.std.specs.Prelude.{Contains, sum_by}
 use Rattle.std.proofs.lemmas.Bool.{cases_eq, ne_eqb}
@@ -42,7 +42,7 @@ sum_by_places f xs d (suc n) h =
     let more = sum_by_more f xs n d (omega arith) in
     (rw add-one at more) ∙ ap (λ (x : ℕ). x + f (get_or xs n d)) (sum_by_places f xs d n (omega arith))
 
--- 1 where the number stands in the list, else 0
+-- 1 where the number is in the list, else 0
 abbrev pub stands_in : List ℕ → ℕ → ℕ
 stands_in [] d = 0
 stands_in (x ∷ xs) d = cond (x == d) 1 (stands_in xs d)
@@ -67,7 +67,7 @@ stands_in_no (x ∷ xs) d out =
       | inr ne ↦ rw (ne_eqb x d ne) (stands_in_no xs d (λ w. out (suc w.0, omega (arith, w.1), w.2)))
     ]
 
--- a number stands first or later, where the first does not stand again
+-- a number is first or later, where the first is not there again
 first_or_later : (x : ℕ) (xs : List ℕ) (d : ℕ) → (Contains xs x → ⊥) → stands_in (x ∷ xs) d ≡ cond (x == d) 1 0 + stands_in xs d
 first_or_later x xs d out =
     elim (cases_eq x d) [

@@ -39,7 +39,7 @@ list_at made i v lt = get_or-map (λ (w : Vec ℕ). w.items) made i v [] lt
 pub lists_length : (made : List (Vec ℕ)) → length (lists_of made) ≡ length made
 lists_length made = length-map made (λ (w : Vec ℕ). w.items)
 
--- one more vector behind those that were made for the first numbers
+-- one more vector after those that were made for the first numbers
 pub list_pushed : (P : ℕ → List ℕ → Type 0) (k : ℕ) (made more : List (Vec ℕ)) (v : Vec ℕ) → length (lists_of made) ≡ k → ((i : ℕ) → i < k → P i (slice_index_or (lists_of made) i [])) → more ≡ made ++ (v ∷ []) → P k v.items
     → (length (lists_of more) ≡ k + 1) × ((i : ℕ) → i < k + 1 → P i (slice_index_or (lists_of more) i []))
 list_pushed P k made more v len all is own = (ap length lists ∙ length_push (lists_of made) v.items ∙ ap (λ (n : ℕ). n + 1) len, at)

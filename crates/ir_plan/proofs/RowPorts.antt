@@ -16,7 +16,7 @@ true_from_in : (n a b d : ℕ) → InInterval n a b d → (if nat_lt a b then (n
 true_from_in n a b d h = grind (arith, nat_tests)
 
 module _ (n d : ℕ) (label : d < n) where
-  -- what is found has the label, and stands in the list
+  -- what is found has the label, and is in the list
   pub found : (ms : List PortInterval) (m : PortInterval) → find (has_label d) ms ≡ Some m → HasLabel n m d × ((k : ℕ) × (k < length ms) × (get_or ms k m ≡ m))
   found [] m e = absurd (cc e)
   found (x ∷ ms) m e =

@@ -28,7 +28,7 @@ use Rattle.ir_plan.specs.SonStarts.{IsSonStart, IsFatherStart, AreSonStarts, Are
 use Rattle.ir_plan.proofs.NodeRows.{tree_destinations}
 use Rattle.ir_plan.proofs.TreePlans.{start_at}
 
--- a number above all stands behind ascending ones
+-- a number above all follows ascending ones
 rising_push : (xs : List ℕ) (y : ℕ) → IsStrictlyIncreasing xs → ((c : ℕ) → Contains xs c → c < y) → IsStrictlyIncreasing (xs ++ y ∷ [])
 rising_push xs y up below k h =
     let len = length_push xs y in
@@ -60,7 +60,7 @@ module _ (net : Topology) (ok : IsTopology net) (numbers : Numbering) (is : IsNu
   at_place : (p v : ℕ) → IsPortTo net u p v → IsPortTo net (slice_index numbers.order (slice_index numbers.labels u)) p v
   at_place p v to = subst (λ (x : ℕ). IsPortTo net x p v) (sym (is.labels.there u hu)) to
 
-  -- a port to a son makes a start for it, and a start for a son tells one
+  -- a port to a son makes a start for it, and a start for a son gives one
   son_start : (p v : ℕ) → IsPortTo net u p v → IsParent numbers.order numbers.parents v u → IsSonStart net numbers u (start_with (slice_index numbers.labels v) p)
   son_start p v to h =
       let i = h.0 in
@@ -154,7 +154,7 @@ module _ (net : Topology) (ok : IsTopology net) (numbers : Numbering) (is : IsNu
     sons_either : All (λ (s : Start). IsSonStart net numbers u s ⊎ IsFatherStart net numbers u size s) row
     sons_either = All-weaker (λ (s : Start). IsSonStart net numbers u s × (s.port < length (ports_of net u))) (λ (s : Start). IsSonStart net numbers u s ⊎ IsFatherStart net numbers u size s) (λ s p. inl p.0) row are.each
 
-    -- the labels of the sons stand inside the subtree
+    -- the labels of the sons are inside the subtree
     son_between : (c : ℕ) → Contains (start_labels row) c → (0 < c) × (c < slice_index numbers.labels u + size)
     son_between c w =
         let t = start_at row c w in
@@ -200,7 +200,7 @@ module _ (net : Topology) (ok : IsTopology net) (numbers : Numbering) (is : IsNu
       some_under : 0 < size
       some_under = let r = ((sub.places (slice_index numbers.labels u) own).0 itself).1 in omega arith
 
-      -- where the subtree has the last label, the father's start stands in front
+      -- where the subtree has the last label, the father's start is in front
       pub starts_front : slice_index numbers.labels u + size ≡ node_count net → AreTreeStarts net numbers u (start_with 0 up ∷ row)
       starts_front last =
           let a = slice_index numbers.labels u in
@@ -217,7 +217,7 @@ module _ (net : Topology) (ok : IsTopology net) (numbers : Numbering) (is : IsNu
             father = λ from. (0, omega arith, z);
           }
 
-      -- and else behind the others
+      -- and else after the others
       pub starts_behind : slice_index numbers.labels u + size ≢ node_count net → AreTreeStarts net numbers u (row ++ start_with (slice_index numbers.labels u + size) up ∷ [])
       starts_behind ne =
           let a = slice_index numbers.labels u in

@@ -63,7 +63,7 @@ listing_permuted n xs ys is moved = record {
 pub listing_swapped : (n : ℕ) (xs ys : List ℕ) (i j : ℕ) → IsListing n xs → i < n → j < n → ys ≡ swap xs i j → IsListing n ys
 listing_swapped n xs ys i j is hi hj e = let every = is.every in listing_permuted n xs ys is (IsPermutation-swap xs ys i j (omega arith) (omega arith) e)
 
--- a number at a place of a list of numbers below n, or behind its end, is below n
+-- a number at a place of a list of numbers below n, or after its end, is below n
 index_below : (n : ℕ) (xs : List ℕ) → 0 < n → All (λ v. v < n) xs → (i : ℕ) → slice_index xs i < n
 index_below n xs some all i =
     elim (cases_lt i (length xs)) [
@@ -160,13 +160,13 @@ module _ (far : ℕ → ℕ → ℕ) where
   shortened_first zero xs = refl
   shortened_first (suc sweeps) xs = shortened_first sweeps (swept far xs) ∙ swept_first xs
 
-  -- sweeps behind one that changes nothing change nothing
+  -- sweeps after one that changes nothing change nothing
   pub shortened_stays : (sweeps : ℕ) (xs : List ℕ) → swept far xs ≡ xs → shortened far sweeps xs ≡ xs
   unfolding shortened
   shortened_stays zero xs same = refl
   shortened_stays (suc sweeps) xs same = ap (shortened far sweeps) same ∙ shortened_stays sweeps xs same
 
-  -- one sweep, and those behind it
+  -- one sweep, and those after it
   pub shortened_next : (sweeps more : ℕ) (xs : List ℕ) → more ≡ sweeps + 1 → shortened far more xs ≡ shortened far sweeps (swept far xs)
   unfolding shortened
   shortened_next sweeps more xs e = let is : more ≡ suc sweeps = omega (arith, e) in ap (λ (k : ℕ). shortened far k xs) is

@@ -58,7 +58,7 @@ module _ (n : ℕ) (parents : List ℕ) (a size : ℕ) (row : List Start) (is : 
   end_label : subtree_end n a size < n
   end_label = end_below n a size is.place some is.subtree.within
 
-  -- no son stands at the end
+  -- no son is at the end
   son_inside : (d : ℕ) → 0 < d → d < n → slice_index parents d ≡ a → 0 < a → subtree_end n a size ≢ d
   son_inside d from label p above e =
       let under : IsUnder parents a d = child d from (subst (IsUnder parents a) (sym p) itself) in

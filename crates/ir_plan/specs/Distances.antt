@@ -18,7 +18,7 @@ far_from rows a = slice_index_or (lists_of rows) a []
 abbrev pub far_between : List (Vec ℕ) → ℕ → ℕ → ℕ
 far_between rows a b = slice_index (far_from rows a) b
 
--- what stands in a column for a port
+-- what is in a column for a port
 abbrev pub column_port : Option ℕ → ℕ
 column_port None = NO_PORT
 column_port (Some p) = p

@@ -59,7 +59,7 @@ IsOfShortestWays (Landmark t) = ⊥
 abbrev pub IsToured : Plan → Type 0
 IsToured plan = IsOfShortestWays plan.kind × (node_count plan.topology ≤ 4096)
 
--- A plan is labelled in this order: as the first plan of its kind, which is depth first but for landmark plans; or by a
+-- A plan is labelled in this order: as the first plan of its kind, which is depth first but for landmark plans. Or by a
 -- tour where one is sought, else as the first plan too.
 abbrev pub IsLabelledBy : LabelOrder → Plan → Type 0
 IsLabelledBy DepthFirst plan = IsFirstPlan plan

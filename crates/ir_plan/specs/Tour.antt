@@ -20,13 +20,13 @@ difference n table a b = count_by (λ u. differ (table u a) (table u b)) (range_
 abbrev pub IsNoFarther : (ℕ → ℕ) → ℕ → ℕ → Type 0
 IsNoFarther far v w = (far v < far w) ⊎ ((far v ≡ far w) × (v ≤ w))
 
--- The order by nearest: all numbers below n, the root first, and behind each the nearest of all that are not before.
+-- The order by nearest: all numbers below n, the root first, and after each the nearest of all that are not before.
 pub record IsNearestOrder (n : ℕ) (far : ℕ → ℕ → ℕ) (root : ℕ) (order : List ℕ) : Type 0 where
   pub listing : IsListing n order
   pub first : slice_index order 0 ≡ root
   pub nearest : (i j : ℕ) → i < j → j < n → IsNoFarther (far (slice_index order i)) (slice_index order (i + 1)) (slice_index order j)
 
--- the node behind place j of the closed tour
+-- the node after place j of the closed tour
 abbrev pub next_in_tour : List ℕ → ℕ → ℕ
 next_in_tour order j = slice_index order (if nat_lt (j + 1) (length order) then j + 1 else 0)
 
@@ -48,11 +48,11 @@ tried far i order j = if is_shorter far order i j then turned order i j else ord
 unfoldable pub tried_from : (ℕ → ℕ → ℕ) → List ℕ → ℕ → List ℕ
 tried_from far order i = fold (tried far i) order (range_with_len (i + 1) (length order - (i + 1)))
 
--- a sweep: all stretches behind the first place are tried, by where they begin
+-- a sweep: all stretches after the first place are tried, by where they begin
 unfoldable pub swept : (ℕ → ℕ → ℕ) → List ℕ → List ℕ
 swept far order = fold (tried_from far) order (range_with_len 1 (length order - 1))
 
--- so many sweeps; those behind one that changes nothing change nothing
+-- so many sweeps; those after one that changes nothing change nothing
 unfoldable pub shortened : (ℕ → ℕ → ℕ) → ℕ → List ℕ → List ℕ
 shortened far zero order = order
 shortened far (suc sweeps) order = shortened far sweeps (swept far order)

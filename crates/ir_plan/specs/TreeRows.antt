@@ -17,8 +17,8 @@ subtree_end n a size = label_after n (a + size - 1)
 abbrev pub HasStart : List Start → ℕ → ℕ → Type 0
 HasStart row label port = Contains row (let start : Start = record { label = label; port = port } in start)
 
--- The row of u has a start for each son, at the son's label and with the port to it, and one for the father, where the
--- labels of the subtree of u end and with the port to it; it has no other start, and no two with one port.
+-- The row of u has a start for each son, at the son's label and with the port to it. It has one for the father, where
+-- the labels of the subtree of u end and with the port to it. It has no other start, and no two with one port.
 pub record IsTreeRow (plan : Plan) (parents : List ℕ) (size u : ℕ) : Type 0 where
   pub numbering : IsDepthFirst (neighbors_of plan.topology) (node_count plan.topology) plan.root plan.order parents
   pub subtree : IsSubtree (node_count plan.topology) parents (label_in plan u) size

@@ -131,7 +131,7 @@ fn sixteen_from(alloc: Global, nodes: usize, first: usize) -> Result<Vec<u16>, A
     Ok(sixteen)
 }
 
-/// The rows of all batches, one batch behind the other.
+/// The rows of all batches, one batch after the other.
 pub fn joined(alloc: Global, nodes: usize, batches: Vec<Vec<Row>>) -> Result<Vec<Row>, AllocError>
     ensures { IfOk result (λ rows. rows.items ≡ flat_map (λ batch. batch.items) batches.items) }
 {

@@ -32,16 +32,15 @@ pub enum Labels {
 }
 
 impl Plan {
-    /// The plan of a kind over a topology, labelled depth first from a root, or by blocks in a
-    /// landmark plan: for each node the canonical row of its ports in the full table of that kind. It
-    /// is made on the thread that calls.
+    /// The plan of a kind over a topology, labelled depth first from a root, or by blocks in a landmark plan. For each
+    /// node it has the canonical row of its ports in the full table of that kind. It is made on the thread that calls.
     ///
     /// Refused as Empty where the topology has no node, else as NoNode where the root is none of
-    /// its nodes, else as Disconnected where some node has no walk to some node; NoMemory may come
+    /// its nodes, else as Disconnected where some node has no walk to some node. NoMemory may come
     /// before Disconnected is known. A refusal hands the topology back. Takes O(n (n + m) log n),
-    /// for n nodes and m links; of kind Tree O(n + m); of kind Compact also O(m (n + m)), and for
-    /// each node what `ir_compile::row_of_longest` takes; of kind Landmark the same, and as much for
-    /// each port, and n * n numbers are held. For users of the library.
+    /// for n nodes and m links; of kind Tree O(n + m). Of kind Compact it also takes O(m (n + m)),
+    /// and for each node what `ir_compile::row_of_longest` takes. Of kind Landmark it takes the
+    /// same, and as much for each port, and n * n numbers are held. For users of the library.
     pub fn build(
         alloc: Global,
         topology: Topology,

@@ -196,7 +196,7 @@ fn longest_runs(
     Ok((counts, ports))
 }
 
-// The marks of some nodes, by label; in place of each node stands its label then.
+// The marks of some nodes, by label; in place of each node is its label then.
 fn marks_of(
     alloc: Global,
     nodes: u16,

@@ -16,9 +16,8 @@ const NO_PORT: u16 = u16::MAX;
 /// The fewest columns that a thread is started for.
 const LEAST_COLUMNS: usize = 16;
 
-/// The distance of each two nodes: how many nodes send them by different ports in a plan's table
-/// (the tours of van Leeuwen and Tan's labels, 1987, are as long as the rows that these labels
-/// give).
+/// The distance of each two nodes: how many nodes send them by different ports in a plan's table.
+/// The tours of van Leeuwen and Tan's labels (1987) are as long as the rows that these labels give.
 #[derive(Drop)]
 pub struct Distances {
     nodes: usize,

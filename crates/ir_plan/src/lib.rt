@@ -1,6 +1,6 @@
-//! One epoch's plan: labels by node, depth first or in the order of a tour, by the blocks of landmarks
-//! or by a list, and each node's row of interval starts in place of a full table. A tour is an order
-//! in which neighbours are sent alike by most nodes, so that rows have few starts.
+//! One epoch's plan: labels by node, and each node's row of interval starts in place of a full table. Labels are depth
+//! first or in the order of a tour, by the blocks of landmarks or by a list. A tour is an order in which neighbours are
+//! sent alike by most nodes, so that rows have few starts.
 #![tactic(auto)]
 
 mod batches;

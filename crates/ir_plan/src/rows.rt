@@ -121,8 +121,8 @@ fn rows_from(
     Ok(rows)
 }
 
-/// The row of a node; that of a compact plan by the ties where they were found, else by a search and floods, and that of
-/// a landmark plan by the bounds where they were prepared.
+/// The row of a node. That of a compact plan is made by the ties where they were found, else by a search and floods;
+/// that of a landmark plan by the bounds where they were prepared.
 pub fn row_at(
     alloc: Global,
     topology: &Topology,

@@ -19,8 +19,8 @@ pub fn shorten(far: &Distances, order: &mut [u16])
     }
 }
 
-// Turns each stretch behind the first node where that makes the tour shorter, by its first place and then by its last.
-// It tells whether it turned one.
+// Turns each stretch after the first node where that makes the tour shorter, by its first place and then by its last.
+// Returns whether it turned one.
 fn sweep(far: &Distances, order: &mut [u16]) -> bool
     requires { All (λ v. v < far.now.nodes) order.old }
     ensures swept { order.new ≡ swept (far_between far.now.rows.items) order.old }
@@ -36,7 +36,7 @@ fn sweep(far: &Distances, order: &mut [u16]) -> bool
     turned
 }
 
-// Turns each stretch from a place on where that makes the tour shorter, and tells whether it turned one.
+// Turns each stretch from a place on where that makes the tour shorter, and returns whether it turned one.
 fn sweep_from(far: &Distances, order: &mut [u16], from: usize) -> bool
     requires nodes { All (λ v. v < far.now.nodes) order.old }
     requires behind { 0 < from }
@@ -54,7 +54,7 @@ fn sweep_from(far: &Distances, order: &mut [u16], from: usize) -> bool
     turned
 }
 
-// Turns the stretch from one place to another where that makes the tour shorter, and tells whether it did.
+// Turns the stretch from one place to another where that makes the tour shorter, and returns whether it did.
 fn turn_shorter(far: &Distances, order: &mut [u16], from: usize, to: usize) -> bool
     requires nodes { All (λ v. v < far.now.nodes) order.old }
     requires behind { 0 < from }

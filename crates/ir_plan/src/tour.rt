@@ -76,11 +76,10 @@ fn if_fewer(found: Plan, plan: &Plan) -> Option<Plan>
     }
 }
 
-/// The plan of the kind and network of a depth-first one over the tour from its root, where that has
-/// fewer starts; where there is none, the depth-first plan is the one that is labelled by the tour.
-/// Takes as long as that plan. Refused for memory alone.
-/// Condition: the tour is that of the network, as `tour_of` gives it, and the kind is one of shortest
-/// ways.
+/// The plan of the kind and network of a depth-first one over the tour from its root, where that has fewer starts.
+/// Where there is none, the depth-first plan is the one that is labelled by the tour. Takes as long as that plan.
+/// Refused for memory alone. Condition: the tour is that of the network, as `tour_of` gives it, and the kind is one of
+/// shortest ways.
 pub fn plan_over_tour(
     crew: &impl Crew,
     alloc: Global,

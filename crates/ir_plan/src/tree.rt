@@ -55,7 +55,7 @@ fn son_words(
 }
 
 // Adds the start for the father, if there is one: in front of the sons' where the subtree has the last label, and else
-// behind them.
+// after them.
 fn add_father(
     words: &mut Vec<u32>,
     topology: &Topology,

@@ -1,4 +1,4 @@
--- How many prefixes a trie is told by, and what that is at least.
+-- How many prefixes a trie is given by, and what that is at least.
 use Rattle.std.proofs.Common.{◌≡◌, ℕ, ◌+◌, ◌-◌, ◌*◌, ◌<◌, ◌≤◌, ◌||◌, ◌&&◌, List, [], ◌∷◌, ◌++◌, length, length-append, get_or, Bool, true, false, refl, ap, sym, ◌∙◌, inl, inr, arith, Option}
 use Rattle.ir_prefix.specs.Joined.{is_named}
 use Rattle.ir_prefix.specs.Described.{names_of, IsJoin, Trie, Free, Alike, Fork}
@@ -10,7 +10,7 @@ abbrev pub miss : Bool → ℕ
 miss true = 0
 miss false = 1
 
--- how many prefixes a trie is told by, below what is named above
+-- how many prefixes a trie is given by, below what is named above
 abbrev pub cost : Trie → Option ℕ → ℕ
 cost Free q = 0
 cost (Alike p) q = miss (is_named (p ∷ []) q)
@@ -72,7 +72,7 @@ at_most_one true = omega arith
 at_most_one false = omega arith
 
 -- a node's cost: one number where a name of it is above, and one more elsewhere; and no more than its halves' costs below any
--- one name, with one more where that name is told
+-- one name, with one more where that name is given
 pub record IsPriced (c : List ℕ) (own left right : Option ℕ → ℕ) : Type 0 where
   pub base : ℕ
   pub price : (q : Option ℕ) → own q ≡ base + miss (is_named c q)

@@ -1,4 +1,4 @@
--- No list of ranges that tells the ports is shorter.
+-- No list of ranges that gives the ports is shorter.
 use Rattle.std.proofs.Common.{◌≡◌, ◌≢◌, ℕ, ◌-◌, ◌<◌, ◌≤◌, List, length, get_or, map, Option, Some, ap, sym, ◌∙◌, subst, inl, inr, arith}
 use Rattle.std.specs.List.{All, AllPairs, Contains}
 use Rattle.std.proofs.lemmas.Bool.{cases_lt}
@@ -23,7 +23,7 @@ firsts_long : (set : List LabelRange) → length (firsts set) ≡ length set
 firsts_long set = length-map set (λ (r : LabelRange). r.from)
 
 module _ (ports : List (Option ℕ)) (set : List LabelRange) (tells : TellsPorts ports set) where
-  -- where a range begins whose label before has another port, one of any that tell the ports does
+  -- where a range begins whose label before has another port, one of any that give the ports does
   begins : (r m : LabelRange) → IsOf 0 ports r → IsInRange r.from m → ((label : ℕ) → IsInRange label m → port_to ports label ≡ Some m.port) → m.from ≡ r.from
   begins r m h i agrees = let filled = h.filled in elim (cases_lt m.from r.from) [
     | inl before ↦ absurd (h.starts (r.from - 1) (omega (arith, before))

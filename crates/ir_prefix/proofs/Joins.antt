@@ -71,7 +71,7 @@ run_more ports label port end run =
     (λ d l h. run.same d l (omega (arith, some, h))) (subst Q (sym next ∙ ap (λ (x : ℕ). x + 1) (sym last)) run.other) in
     is ∙ ap (λ (x : ℕ). range label x port ∷ tail (x + 1)) last ∙ ap (λ (x : ℕ). range label (end - 1) port ∷ tail x) next
 
--- what is known behind one range more
+-- what is known after one range more
 pub loop_more : (ports : List (Option ℕ)) (set more : List LabelRange) (label port end : ℕ) (r : LabelRange) (all : List LabelRange) → EndsRun ports label port end
     → r ≡ range label (end - 1) port → more ≡ set ++ r ∷ [] → set ++ ranges_from label (drop label ports) ≡ all
     → more ++ ranges_from end (drop end ports) ≡ all
@@ -80,7 +80,7 @@ loop_more ports set more label port end r all run is pushed before =
     ap (λ (l : List LabelRange). l ++ rest) pushed
     ∙ append_assoc set (r ∷ []) rest ∙ ap (λ (o : LabelRange). set ++ o ∷ rest) is ∙ ap (λ (l : List LabelRange). set ++ l) (sym (run_more ports label port end run)) ∙ before
 
--- behind the last label all ranges are there
+-- after the last label all ranges are there
 pub all_told : (ports : List (Option ℕ)) (set : List LabelRange) (label : ℕ) → length ports ≤ label → set ++ ranges_from label (drop label ports) ≡ ranges_of ports
     → set ≡ ranges_of ports
 all_told ports set label past told = sym (append-nil set) ∙ ap (λ (l : List (Option ℕ)). set ++ ranges_from label l) (sym (drop_of_length-le ports past)) ∙ told

@@ -87,7 +87,7 @@ module _ (bits unreachable : ℕ) where
         w.2,
       )
 
--- of a list in this order the lines keep their matches while it is filled, and none stands twice
+-- of a list in this order the lines keep their matches while it is filled, and none is there twice
 before_not_shorter : (m o : TableLine) → StandsBefore m o → o.length ≤ m.length
 before_not_shorter m o (inl l) = omega arith
 before_not_shorter m o (inr e) = omega (arith, e.0)

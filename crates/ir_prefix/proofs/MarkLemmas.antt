@@ -115,7 +115,7 @@ low_at ports x p low e =
       | inr past ↦ let n = get_or_past ports x None past in absurd (cc (e, n))
     ]
 
--- what stands last
+-- what is last
 pub popped : (all front : List Mark) (r : Option Mark) (m : Mark) → all ≡ front ++ option_to_list r → r ≡ Some m → all ≡ front ++ m ∷ []
 popped all front r m e is = e ∙ ap (λ (o : Option Mark). front ++ option_to_list o) is
 

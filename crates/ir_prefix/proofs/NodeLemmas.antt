@@ -1,4 +1,4 @@
--- Tries that stand in a list of nodes.
+-- Tries that are in a list of nodes.
 use Rattle.std.proofs.Common.{◌≡◌, ℕ, ◌+◌, ◌-◌, ◌<◌, ◌≤◌, List, [], ◌++◌, length, get_or, take, drop, refl, ap, sym, ◌∙◌, subst, inl, inr, arith}
 use Rattle.std.proofs.Math.ListN.{get_or-append}
 use Rattle.std.proofs.Math.Seq.{drop-append_seam, take-append_seam}
@@ -22,7 +22,7 @@ range_later names more first end l e =
     let n = length-drop first names in
     ap (λ (xs : List ℕ). take (end - first) xs) d ∙ take-append-le (end - first) (drop first names) more (omega (arith, n))
 
--- what stands in the lists stands in longer ones
+-- what is in the lists is in longer ones
 pub stands_later : (list more : List TrieNode) (names further : List ℕ) (place : ℕ) (t : Trie) → Stands list names place t → Stands (list ++ more) (names ++ further) place t
 stands_later list more names further place Free s = holds_later list more place NoPort s
 stands_later list more names further place (Alike p) s = holds_later list more place (OnePort p) s
@@ -49,7 +49,7 @@ grows_twice a b c g h = record {
   names = (g.names.0 ++ h.names.0, h.names.1 ∙ ap (λ (xs : List ℕ). xs ++ h.names.0) g.names.1 ∙ append_assoc a.names.items g.names.0 h.names.0);
 }
 
--- a place that a trie stands at is one of the list
+-- a place that a trie is at is one of the list
 pub stands_inside : (list : List TrieNode) (names : List ℕ) (place : ℕ) (t : Trie) → Stands list names place t → place < length list
 stands_inside list names place Free s = s.0
 stands_inside list names place (Alike p) s = s.0
@@ -66,7 +66,7 @@ stands_alike list names place p Free e s = let h = s.1 in absurd cc
 stands_alike list names place p (Alike q) e s = let h = s.1 in cc
 stands_alike list names place p (Fork own l r) e s = let h = s.1.1 in absurd cc
 
--- what the node of several ports tells
+-- what the node of several ports says
 pub record IsFork (list : List TrieNode) (names : List ℕ) (places : Places) (t : Trie) : Type 0 where
   pub own : List ℕ
   pub left : Trie
@@ -87,7 +87,7 @@ stands_fork list names place places (Fork own l r) e s =
     subst (λ (f : Places). IsFork list names f (Fork own l r)) same
     (record { own = own; left = l; right = r; is = refl; order = s.2; inside = s.3; names_are = s.4; stands_left = s.5; stands_right = s.6 })
 
--- at one place one trie stands
+-- at one place there is one trie
 pub one_stands : (list : List TrieNode) (names : List ℕ) (place : ℕ) (t u : Trie) → Stands list names place t → Stands list names place u → t ≡ u
 one_stands list names place Free u s v = sym (stands_free list names place u s.1 v)
 one_stands list names place (Alike p) u s v = sym (stands_alike list names place p u s.1 v)
@@ -104,7 +104,7 @@ own_range names own =
     let k : take (length own) own ≡ own = ap (λ (xs : List ℕ). take (length own) xs) (sym (append-nil own)) ∙ take-append_seam own [] in
     ap (λ (n : ℕ). take n (drop (length names) (names ++ own))) e ∙ ap (λ (xs : List ℕ). take (length own) xs) (drop-append_seam names own) ∙ k
 
--- the node of two halves stands behind them
+-- the node of two halves follows them
 pub fork_stands : (later : List TrieNode) (names own after : List ℕ) (first end left right place : ℕ) (l r : Trie) → first ≡ length names → end ≡ length after → after ≡ names ++ own
     → HoldsNode later place (Several (record { first = first; end = end; left = left; right = right })) → Stands later after left l → Stands later after right r → Stands later after place (Fork own l r)
 fork_stands later names own after first end left right place l r e f whole holds sl sr =

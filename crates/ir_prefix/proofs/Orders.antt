@@ -120,7 +120,7 @@ cover_distinct bits ports t d l v =
     let e = tally_is_count (is_same l v) (cover_of bits t bits 0 None) in
     omega arith
 
--- in the order of the key, of two prefixes that are not the same the first stands before the second
+-- in the order of the key, of two prefixes that are not the same the first is before the second
 before_by : (m o : Prefix) → is_lt (ordering_then (nat_cmp m.length o.length) (nat_cmp o.value m.value)) ≡ false → (m.length ≡ o.length → m.value ≡ o.value → ⊥) → IsBefore m o
 before_by m o e ne =
     elim (cases_lt o.length m.length) [

@@ -8,14 +8,14 @@ use Rattle.ir_model.specs.Compiled.{port_to}
 use Rattle.ir_prefix.specs.declared.ranges.LabelRange.{LabelRange}
 use Rattle.ir_prefix.specs.Ranges.{range, with_label, ranges_from, ranges_of, IsInRange, TellsPorts, IsApart, AreRangesApart}
 
--- whether a label is joined to a range behind it
+-- whether a label is joined to a range after it
 abbrev pub joins : ℕ → ℕ → LabelRange → Bool
 joins label port r = (r.from == label + 1) && (r.port == port)
 
 pub joined_is : (label port : ℕ) (r : LabelRange) → joins label port r ≡ true → (r.from ≡ label + 1) × (r.port ≡ port)
 joined_is label port r e = let h = and_parts (r.from == label + 1) (r.port == port) e in (eqb-true r.from (label + 1) h.0, eqb-true r.port port h.1)
 
--- the ranges of a label and of those behind it, by whether it is joined to the first of these
+-- the ranges of a label and of those after it, by whether it is joined to the first of these
 abbrev pub chosen : Bool → ℕ → ℕ → LabelRange → List LabelRange → List LabelRange
 chosen b label port r rest = if b then range label r.to port ∷ rest else range label label port ∷ r ∷ rest
 
@@ -110,7 +110,7 @@ alone_agrees label port ports (suc k) i = absurd (omega (arith, i.1))
 alone : (label port : ℕ) (ports : List (Option ℕ)) → IsOf label (Some port ∷ ports) (range label label port)
 alone label port ports = record { least = omega arith; filled = omega arith; agrees = alone_agrees label port ports; starts = λ k e. absurd (omega (arith, e)) }
 
--- ranges behind another begin behind the next label
+-- ranges after another begin after the next label
 behind : (label : ℕ) (port : ℕ) (ports : List (Option ℕ)) (r : LabelRange) (rest : List LabelRange) → IsFrom (label + 1) r → All (EndsBefore r) rest
     → All (IsOf (label + 1) ports) rest → All (IsOf label (Some port ∷ ports)) rest
 behind label port ports r rest from before all =

@@ -21,7 +21,7 @@ in_block x h i size s low high =
     let e : (i + 1) * 2 ^ h ≡ i * 2 ^ h + 2 ^ h = omega arith in
     div-eq_of_lt-le (2 ^ h) l (subst (λ (m : ℕ). x < m) (sym e) t)
 
--- a run ends behind the number that it is from
+-- a run ends after the number that it is from
 pub run_ends_behind : (ports : List (Option ℕ)) (x : ℕ) (run : LabelRun) → IsRunFrom ports x run → x < length ports → x < run.end
 run_ends_behind ports x run is inside =
     elim (cases_lt x run.end) [

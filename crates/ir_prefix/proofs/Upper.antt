@@ -188,7 +188,7 @@ module _ (bits : ℕ) (ports : List (Option ℕ)) where
             (cover_meets r (h - 1) (2 * i + 1) below d.2 (omega arith) x p at o)
       ]
 
--- a label with a port stands in the list
+-- a label with a port is in the list
 pub port_inside : (ports : List (Option ℕ)) (x p : ℕ) → port_to ports x ≡ Some p → x < length ports
 port_inside ports x p o =
     elim (cases_lt x (length ports)) [

@@ -1,4 +1,4 @@
--- The prefixes that are told for a trie, each node before what lies below it.
+-- The prefixes that are given for a trie, each node before what lies below it.
 use Rattle.std.specs.Prelude.{◌≡◌, ◌==◌, ◌&&◌, ◌≤◌, count_by, ℕ, ◌+◌, ◌-◌, ◌*◌, ◌^◌, ◌<◌, List, [], ◌∷◌, ◌++◌, Bool, true, false, Option, Some, None, slice_index}
 use Rattle.std.specs.List.Sorted.{IsNonDecreasing}
 use Rattle.ir_prefix.specs.Joined.{is_named}
@@ -9,7 +9,7 @@ use Rattle.ir_prefix.specs.declared.cover.Prefix.{Prefix}
 abbrev pub prefix_at : ℕ → ℕ → ℕ → ℕ → Prefix
 prefix_at bits h i p = record { value = i * 2 ^ h; length = bits - h; port = p }
 
--- a prefix is told unless the one above names one of the node's names
+-- a prefix is given unless the one above names one of the node's names
 abbrev pub told_unless : Bool → Prefix → List Prefix
 told_unless true m = []
 told_unless false m = m ∷ []
@@ -31,7 +31,7 @@ cover_of bits (Alike p) h i above = cover_told bits h i (p ∷ []) above
 cover_of bits (Fork names l r) h i above =
     cover_told bits h i names above ++ (cover_of bits l (h - 1) (2 * i) (taken names above) ++ cover_of bits r (h - 1) (2 * i + 1) (taken names above))
 
--- the prefixes that are told for a trie of these ports
+-- the prefixes that are given for a trie of these ports
 abbrev pub IsCover : List (Option ℕ) → ℕ → List Prefix → Type 0
 IsCover ports bits set = (t : Trie) × Describes ports bits 0 t × (set ≡ cover_of bits t bits 0 None)
 

@@ -24,9 +24,9 @@ pub record SendsBy (bits : ℕ) (table : List TableLine) (x : ℕ) (port : Optio
 abbrev pub IsWithin : ℕ → List TableLine → Type 0
 IsWithin bits table = All (λ (m : TableLine). (m.length ≤ bits) × (m.value < 2 ^ bits)) table
 
--- A table of a node among n forwards each other label by the node's port to it. Each number beyond the labels goes the way of
--- the last label, and is unreachable at the node of the last label, which has no port to it: so what is sent to no label
--- ends there.
+-- A table of a node among n forwards each other label by the node's port to it. Each number beyond the labels goes the
+-- way of the last label, and is unreachable at the node of the last label, which has no port to it. So what is sent to
+-- no label ends there.
 pub record IsForwardingTable (n bits : ℕ) (ports : List (Option ℕ)) (table : List TableLine) : Type 0 where
   pub within : IsWithin bits table
   pub meaning : (d p : ℕ) → port_to ports d ≡ Some p → SendsBy bits table d (Some p)
@@ -36,7 +36,7 @@ pub record IsForwardingTable (n bits : ℕ) (ports : List (Option ℕ)) (table :
 abbrev pub IsFewestLines : ℕ → ℕ → List (Option ℕ) → ℕ → Type 0
 IsFewestLines n bits ports count = (table : List TableLine) → IsForwardingTable n bits ports table → count ≤ length table
 
--- No prefix stands twice, and the bits of each value past its prefix are 0.
+-- No prefix is there twice, and the bits of each value past its prefix are 0.
 pub record IsWellFormed (bits : ℕ) (table : List TableLine) : Type 0 where
   pub once : AllPairs (λ (m o : TableLine). m.length ≡ o.length → m.value ≡ o.value → ⊥) table
   pub bits_past : All (λ (m : TableLine). m.value % 2 ^ (bits - m.length) ≡ 0) table
@@ -45,7 +45,7 @@ pub record IsWellFormed (bits : ℕ) (table : List TableLine) : Type 0 where
 abbrev pub NamesPorts : List (Option ℕ) → List TableLine → Type 0
 NamesPorts ports table = All (λ (m : TableLine). (p : ℕ) → m.port ≡ Some p → (d : ℕ) × (port_to ports d ≡ Some p)) table
 
--- a longer prefix stands before a shorter one, and of two as long the one with the lesser value
+-- a longer prefix is before a shorter one, and of two as long the one with the lesser value
 abbrev pub StandsBefore : TableLine → TableLine → Type 0
 StandsBefore m o = (o.length < m.length) ⊎ ((m.length ≡ o.length) × (m.value < o.value))
 

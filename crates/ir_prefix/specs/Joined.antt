@@ -1,7 +1,7 @@
--- The names of a node: which ports stand in a list, and what joining two lists makes of them.
+-- The names of a node: which ports are in a list, and what joining two lists makes of them.
 use Rattle.std.specs.Prelude.{◌≡◌, ℕ, ◌<◌, ◌==◌, ◌||◌, ◌&&◌, ◌⊎◌, List, [], ◌∷◌, length, Bool, true, false, Option, Some, None}
 
--- a port stands in the list
+-- a port is in the list
 abbrev pub is_among : List ℕ → ℕ → Bool
 is_among [] p = false
 is_among (x ∷ xs) p = (x == p) || is_among xs p

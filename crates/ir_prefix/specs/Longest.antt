@@ -33,11 +33,11 @@ pub record IsWidth (n bits : ℕ) : Type 0 where
   pub enough : n ≤ 2 ^ bits
   pub least : (k : ℕ) → n ≤ 2 ^ k → bits ≤ k
 
--- a longer prefix stands before a shorter one, and of two as long the one with the lesser value
+-- a longer prefix is before a shorter one, and of two as long the one with the lesser value
 abbrev pub IsBefore : Prefix → Prefix → Type 0
 IsBefore m o = (o.length < m.length) ⊎ ((m.length ≡ o.length) × (m.value < o.value))
 
--- each prefix stands before the next one
+-- each prefix is before the next one
 abbrev pub IsLongestFirst : List Prefix → Type 0
 IsLongestFirst set = AllAdjacentBelow IsBefore set (length set)
 

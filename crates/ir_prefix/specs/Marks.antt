@@ -20,7 +20,7 @@ abbrev pub bit_of : Option ℕ → ℕ
 bit_of None = 63
 bit_of (Some p) = min p 63
 
--- the bits of a number tell which names a node has
+-- the bits of a number say which names a node has
 abbrev pub AreNameBits : List ℕ → ℕ → Type 0
 AreNameBits names m = (q : Option ℕ) → is_named names q ≡ (bit_at m (bit_of q) == 1)
 
@@ -41,7 +41,7 @@ AreMarks (Fork names l r) marks =
     ((m : ℕ) × (left : List Mark) × (right : List Mark) × (names ≡ ports_in m) × (marks ≡ (right ++ left) ++ Several m ∷ []) × AreMarks l left × AreMarks r right)
     ⊎ ((m : ℕ) × (p : ℕ) × (q : ℕ) × (names ≡ ports_in m) × (marks ≡ Pair m p q ∷ []) × (l ≡ Alike p) × (r ≡ Alike q))
 
--- behind other marks stand those of a trie
+-- after other marks come those of a trie
 abbrev pub EndsIn : Trie → List Mark → List Mark → Type 0
 EndsIn t rest marks = (more : List Mark) × AreMarks t more × (marks ≡ rest ++ more)
 

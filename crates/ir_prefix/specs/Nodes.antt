@@ -1,4 +1,4 @@
--- A trie as a list of nodes, each behind its halves, and a list of the names of all.
+-- A trie as a list of nodes, each after its halves, and a list of the names of all.
 use Rattle.std.specs.Prelude.{◌≡◌, ℕ, ◌<◌, ◌≤◌, ◌⊎◌, List, ◌++◌, length, slice_index_or}
 use Rattle.std.specs.List.{slice_range}
 use Rattle.ir_prefix.specs.Described.{Trie, Free, Alike, Fork, IsNodeOfHalves}
@@ -17,7 +17,7 @@ IsMerged l r NoPort = (l ≡ NoPort) × (r ≡ NoPort)
 IsMerged l r (OnePort p) = ((l ≡ OnePort p) × ((r ≡ NoPort) ⊎ (r ≡ OnePort p))) ⊎ ((l ≡ NoPort) × (r ≡ OnePort p))
 IsMerged l r (Several f) = ⊥
 
--- a trie stands at a place: its node with its names, and its halves where this tells
+-- a trie is at a place: its node with its names, and its halves where this says
 abbrev pub Stands : List TrieNode → List ℕ → ℕ → Trie → Type 0
 Stands list names place Free = HoldsNode list place NoPort
 Stands list names place (Alike p) = HoldsNode list place (OnePort p)
@@ -33,6 +33,6 @@ pub record Grows (before after : Nodes) : Type 0 where
   pub nodes : (more : List TrieNode) × (after.list.items ≡ before.list.items ++ more)
   pub names : (more : List ℕ) × (after.names.items ≡ before.names.items ++ more)
 
--- the node of two halves stands at a place
+-- the node of two halves is at a place
 abbrev pub StandsOver : Trie → Trie → Nodes → ℕ → Type 0
 StandsOver l r nodes place = (t : Trie) × IsNodeOfHalves l r t × StandsIn nodes place t

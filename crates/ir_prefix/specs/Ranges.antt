@@ -1,4 +1,4 @@
--- Ranges of labels with one port, and which lists of them tell the port to each label.
+-- Ranges of labels with one port, and which lists of them give the port to each label.
 use Rattle.std.specs.Prelude.{◌≡◌, ◌≢◌, ◌==◌, ◌&&◌, ℕ, ◌+◌, ◌<◌, ◌≤◌, List, [], ◌∷◌, length, All, Any, Option, Some, None, if◌then◌else◌}
 use Rattle.std.specs.List.{AllPairs}
 use Rattle.ir_model.specs.Compiled.{port_to}
@@ -8,8 +8,8 @@ use Rattle.ir_prefix.specs.declared.ranges.LabelRange.{LabelRange}
 abbrev pub range : ℕ → ℕ → ℕ → LabelRange
 range from to port = record { from = from; to = to; port = port }
 
--- The ranges of a label with a port and of those behind it: a range that begins with the next label and has this port
--- begins with the label, and else the label is a range of its own.
+-- The ranges of a label with a port and of those after it. A range that begins with the next label and has this port
+-- begins with the label; else the label is a range of its own.
 abbrev pub with_label : ℕ → ℕ → List LabelRange → List LabelRange
 with_label label port [] = range label label port ∷ []
 with_label label port (r ∷ rest) =
@@ -44,6 +44,6 @@ IsApart r later = (r.to < later.from) × (r.to + 1 ≡ later.from → r.port ≢
 abbrev pub AreRangesApart : List LabelRange → Type 0
 AreRangesApart set = AllPairs IsApart set
 
--- no ranges that tell the ports are fewer
+-- no ranges that give the ports are fewer
 abbrev pub IsFewestRanges : List (Option ℕ) → ℕ → Type 0
 IsFewestRanges ports count = (set : List LabelRange) → TellsPorts ports set → count ≤ length set

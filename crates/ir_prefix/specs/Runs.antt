@@ -17,7 +17,7 @@ pub record IsRunFrom (ports : List (Option ℕ)) (x : ℕ) (run : LabelRun) : Ty
   pub same : (y p : ℕ) → x ≤ y → y < run.end → port_to ports y ≡ Some p → p ≡ run.port
   pub next : run.end < length ports → (run.first < run.end) × (p : ℕ) × (port_to ports run.end ≡ Some p) × (p ≢ run.port)
 
--- each number has its run, which ends behind it
+-- each number has its run, which ends after it
 pub record AreRuns (ports : List (Option ℕ)) (runs : List LabelRun) : Type 0 where
   pub every : length runs ≡ length ports
   pub each : (x : ℕ) (none : LabelRun) → x < length ports → IsRunFrom ports x (slice_index_or runs x none) × (x < (slice_index_or runs x none).end)

@@ -18,7 +18,7 @@ pub struct Prefix {
     pub port: u16,
 }
 
-// Where a node of a trie stands: so high, the index-th of its height.
+// Where a node of a trie is: so high, the index-th of its height.
 #[derive(Clone, Copy)]
 struct Spot {
     height: u8,
@@ -51,7 +51,7 @@ pub fn cover_by_names(
     Ok(set)
 }
 
-// Adds the prefixes of a node that stands there, where the longest one above it names `above`: as few as there can be.
+// Adds the prefixes of a node that is there, where the longest one above it names `above`: as few as there can be.
 fn cover(
     nodes: &Nodes,
     place: usize,

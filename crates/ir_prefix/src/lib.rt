@@ -1,4 +1,4 @@
-//! The fewest entries that tell ports by label: prefixes whose longest match names them (Draves, King, Venkatachary and
+//! The fewest entries that give ports by label: prefixes whose longest match names them (Draves, King, Venkatachary and
 //! Zill 1999), or ranges of labels.
 #![tactic(auto)]
 

@@ -1,5 +1,5 @@
 //! The prefixes of labels whose ports are all below 63. The names of a node are the bits of a number, which are joined
-//! at once; for other ports they stand in lists.
+//! at once; for other ports they are in lists.
 
 ghost use Rattle.std.specs.Prelude.{◌≡◌, ◌≢◌, ◌↔◌, ◌==◌, ◌<◌, ◌≤◌, ◌+◌, ◌-◌, ◌*◌, ◌^◌, ◌++◌, List, [], ◌∷◌, Some, length, slice_index, take, IfOk, IfSome, IsTrue, OnOk};
 ghost use Rattle.std.specs.{Int.bit_at, Int.Bits.bit_and};
@@ -51,8 +51,8 @@ pub fn cover_by_marks(
     Ok(set)
 }
 
-// Adds the marks of the node so high, the index-th of its height, such that its own stands last, before it those of its
-// left half, and before these those of its right half; and answers its names.
+// Adds the marks of the node so high, the index-th of its height, and answers its names. Its own mark is last, before
+// it are those of its left half, and before these those of its right half.
 fn push_marks(
     ports: &[Option<u16>],
     runs: &[LabelRun],
@@ -134,7 +134,7 @@ fn joined(left: u64, right: u64) -> u64
     if shared == 0 { left | right } else { shared }
 }
 
-// Adds the mark of the node of two halves, whose marks stand behind the first ones, given the names
+// Adds the mark of the node of two halves, whose marks follow the first ones, given the names
 // of the halves. Where no port lies below either, its mark takes the place of theirs.
 fn push_parent(
     marks: &mut Vec<Mark>,

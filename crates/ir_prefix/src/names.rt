@@ -17,7 +17,7 @@ pub fn has_name(names: &[u16], above: Option<u16>) -> bool
     }
 }
 
-// Whether a port stands in the list.
+// Whether a port is in the list.
 fn has_port(names: &[u16], port: u16) -> bool
     requires { IsNonDecreasing names.now }
     ensures { result ≡ is_among names.now port }
@@ -25,7 +25,7 @@ fn has_port(names: &[u16], port: u16) -> bool
     names.binary_search(&port).is_ok()
 }
 
-/// Puts into the room, in place of what stands there, the names that two nodes share, or those of both where they share
+/// Puts into the room, in place of what is there, the names that two nodes share, or those of both where they share
 /// none.
 pub fn join(room: &mut Vec<u16>, left: &[u16], right: &[u16]) -> Result<(), AllocError>
     requires { IsNonDecreasing left.now }
@@ -41,7 +41,7 @@ pub fn join(room: &mut Vec<u16>, left: &[u16], right: &[u16]) -> Result<(), Allo
     Ok(())
 }
 
-// Puts into the room the ports that stand in both lists.
+// Puts into the room the ports that are in both lists.
 fn share(room: &mut Vec<u16>, left: &[u16], right: &[u16]) -> Result<(), AllocError>
     requires { IsNonDecreasing left.now }
     ensures { OnOk result (IsShared left.now right.now room.new.items) }

@@ -14,9 +14,9 @@ pub struct LabelRange {
     pub port: u16,
 }
 
-/// The ranges of a node, given its port to each label, none to its own: each label with a port is
-/// in exactly one range, which has this port, and a label without is in none. They ascend, two that
-/// touch have different ports, and no list of ranges that tells the ports is shorter. Condition:
+/// The ranges of a node, given its port to each label, none to its own. Each label with a port is
+/// in exactly one range, which has this port; a label without one is in none. They ascend, two that
+/// touch have different ports, and no list of ranges that gives the ports is shorter. Condition:
 /// labels are numbers of 16 bits. It is refused for memory alone. Takes O(n), for n labels.
 pub fn label_ranges(alloc: Global, ports: &[Option<u16>]) -> Result<Vec<LabelRange>, AllocError>
     requires { length ports.now ≤ 65536 }
@@ -49,7 +49,7 @@ pub fn label_ranges(alloc: Global, ports: &[Option<u16>]) -> Result<Vec<LabelRan
 }
 
 // Where the labels from one on that have its port end: the first label with another port or none,
-// or that behind the last.
+// or that after the last.
 fn run_end(ports: &[Option<u16>], label: usize, port: u16) -> usize
     requires label { label < length ports.now }
     requires port { port_to ports.now label ≡ Some port }

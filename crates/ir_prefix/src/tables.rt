@@ -15,12 +15,12 @@ use crate::{table, width};
 use std::alloc::{AllocError, Global};
 
 /// The forwarding table of the node with the label `own` among `n` nodes, given its port to each
-/// label: the longest match of each other label names its port, and no table that does so, and
-/// sends the numbers beyond the labels as this one does, has fewer lines (Draves, King,
-/// Venkatachary and Zill 1999). Such a number has the port of the last label, and is unreachable
-/// where that is the own label. The own label may match any line or none. The longest prefixes
-/// stand first, and those of one length in the order of their values: while a table is filled in
-/// this order, or emptied in the opposite one, a number finds no match or that of the whole table.
+/// label. The longest match of each other label names its port. No table that does so, and sends
+/// the numbers beyond the labels as this one does, has fewer lines (Draves, King, Venkatachary and
+/// Zill 1999). Such a number has the port of the last label, and is unreachable where that is the
+/// own label. The own label may match any line or none. The longest prefixes are first, and those
+/// of one length in the order of their values. While a table is filled in this order, or emptied in
+/// the opposite one, a number finds no match or that of the whole table.
 ///
 /// Condition: the ports are a list of destinations, as `ir_compile::is_destinations` asks. Refused
 /// for memory alone. Takes O(n (log n + t)), where t ports are tried, from the greatest number
@@ -49,9 +49,9 @@ pub fn forwarding_lines(
 }
 
 /// The forwarding table of the node with the label `own` among `n` nodes, given its port to each
-/// label, in which no number matches two lines: each other label matches one, with its port, and no
+/// label, in which no number matches two lines. Each other label matches one, with its port, and no
 /// number beyond the labels matches any. No table that does so has fewer lines. The own label may
-/// match a line or none. The lines stand in the order of `forwarding_lines`, but none is needed:
+/// match a line or none. The lines are in the order of `forwarding_lines`, but none is needed:
 /// where a line is missing, what it holds is dropped.
 ///
 /// Condition, refusal and time are those of `forwarding_lines`.

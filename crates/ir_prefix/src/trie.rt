@@ -18,7 +18,7 @@ pub enum TrieNode {
     Several(Places),
 }
 
-/// Where the names of a node with several ports stand, ascending, and where its two halves.
+/// Where the names of a node with several ports are, ascending, and where its two halves.
 #[derive(Clone, Copy)]
 pub struct Places {
     pub first: usize,
@@ -27,15 +27,15 @@ pub struct Places {
     pub right: usize,
 }
 
-/// The nodes of a trie, each behind its halves, and their names.
+/// The nodes of a trie, each after its halves, and their names.
 #[derive(Drop)]
 pub struct Nodes {
     pub list: Vec<TrieNode>,
     pub names: Vec<u16>,
 }
 
-/// Adds the node so high above the labels, the index-th of its height, behind all below it, and answers its place. What
-/// stands in the room before does not matter.
+/// Adds the node so high above the labels, the index-th of its height, after all below it, and answers its place. What
+/// is in the room before does not matter.
 pub fn push_trie(
     ports: &[Option<u16>],
     runs: &[LabelRun],

@@ -61,7 +61,7 @@ module _ (nodes : List Name) where
       by true h k = (h, words_named (words line) node k)
       by false h k = absurd (cc k)
 
-  -- a line that is wrong whatever stands before it
+  -- a line that is wrong whatever is before it
   pub line_wrong : (named : List Name) (line : List ℕ) (kind : OrderFaultKind) → Err kind ≡ line_node nodes line → order_line_fault nodes named line ≡ Some kind
   line_wrong named line kind e = by (list_all is_plain (content line)) e
     where
@@ -84,7 +84,7 @@ module _ (nodes : List Name) where
   pub line_empty : (named : List Name) (line : List ℕ) → list_all is_plain (content line) ≡ true → words line ≡ [] → order_line_fault nodes named line ≡ None
   line_empty named line plain none = plain_fault named line plain ∙ ap (words_fault nodes named) none
 
-  -- a line with the name of a node has a fault where the name stood before
+  -- a line with the name of a node has a fault where the name came before
   pub line_known : (named : List Name) (line : List ℕ) (w : Name) (u : ℕ) → list_all is_plain (content line) ≡ true → words line ≡ w ∷ [] → position (bytes_eq w) nodes ≡ Some u
       → order_line_fault nodes named line ≡ cond (among named w) (Some Twice) None
   line_known named line w u plain one found = plain_fault named line plain ∙ ap (words_fault nodes named) one ∙ words_known named w u found
@@ -95,7 +95,7 @@ module _ (nodes : List Name) where
   abbrev pub ArePlaces : List Name → List ℕ → Type 0
   ArePlaces named order = map (λ name. position (bytes_eq name) nodes) named ≡ map (λ u. Some u) order
 
-  -- a name that stood before has its place in the order
+  -- a name that came before has its place in the order
   pub place_of_named : (named : List Name) (order : List ℕ) (w : Name) (u : ℕ) → ArePlaces named order → position (bytes_eq w) nodes ≡ Some u → among named w ≡ true
       → (a : ℕ) × (a < length order) × (slice_index order a ≡ u)
   place_of_named [] order w u are found is = absurd (cc is)

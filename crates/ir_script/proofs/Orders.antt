@@ -44,7 +44,7 @@ read_none nodes text n is = record {
   placing = subst (λ (k : ℕ). IsPlacing (length nodes) 0 [] (replicate k false)) (sym is) (placing_start (length nodes) []);
 }
 
--- what stands at the end of an order
+-- what is at the end of an order
 at_end : (order : List ℕ) (u : ℕ) → slice_index (order ++ u ∷ []) (length order) ≡ u
 at_end [] u = refl
 at_end (v ∷ order) u = at_end order u

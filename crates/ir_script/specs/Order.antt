@@ -7,14 +7,14 @@ use Rattle.ir_script.specs.declared.order_fault.OrderFault.{OrderFault}
 use Rattle.ir_script.specs.declared.order_fault.OrderFaultKind.{OrderFaultKind}
 use Rattle.ir_script.specs.declared.order_fault.OrderFaultKind.TheVariants.{BadByte, BadRow, UnknownNode, Twice, Missing, NoMemory}
 
--- the fault of the words of a line, behind lines that name these
+-- the fault of the words of a line, after lines that name these
 abbrev pub words_fault : List Name → List Name → List Name → Option OrderFaultKind
 words_fault nodes named [] = None
 words_fault nodes named (name ∷ []) =
     if not (among nodes name) then Some UnknownNode else if among named name then Some Twice else None
 words_fault nodes named (name ∷ other ∷ more) = Some BadRow
 
--- the fault of a line, behind lines that name these
+-- the fault of a line, after lines that name these
 abbrev pub order_line_fault : List Name → List Name → List ℕ → Option OrderFaultKind
 order_line_fault nodes named line = if not (list_all is_plain (content line)) then Some BadByte else words_fault nodes named (words line)
 

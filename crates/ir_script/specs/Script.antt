@@ -22,7 +22,7 @@ module _ {A : Type 0} where
   in_front steps lines (Ok later) = Ok (record { steps = steps ++ later.steps; lines = lines ++ later.lines })
   in_front steps lines (Err e) = Err e
 
-  -- a line's step in front of what the later lines say; a fault is told with the number of its line
+  -- a line's step in front of what the later lines say; a fault is reported with the number of its line
   abbrev pub with_line : ℕ → Result (Option A) ScriptFault → Result (Listing A) (ℕ × ScriptFault) → Result (Listing A) (ℕ × ScriptFault)
   with_line n (Err f) later = Err (n, f)
   with_line n (Ok None) later = later

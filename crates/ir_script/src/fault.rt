@@ -7,7 +7,7 @@ use thiserror::Error;
 /// What is wrong with a line of a script.
 #[derive(Clone, Copy, Debug, PartialEq, Eq)]
 pub enum ScriptFault {
-    /// A byte that is no blank and not in `!` to `~` stands outside a comment.
+    /// A byte that is no blank and not in `!` to `~` is outside a comment.
     BadByte = 1,
     /// The first word names no command, the number of words is wrong, or a fixed word is another.
     BadCommand = 2,

@@ -1,5 +1,5 @@
-//! Texts whose lines name nodes of a graph: scripts, of which each line is a step of a simulation
-//! or a command of a live run, and orders of the nodes; and what is wrong with them.
+//! Texts whose lines name nodes of a graph, and what is wrong with them. They are scripts, of which
+//! each line is a step of a simulation or a command of a live run, and orders of the nodes.
 //!
 //! `specs/Command` says what a line of a script means, `specs/Script` what a whole script says, and
 //! `specs/Order` what an order says.

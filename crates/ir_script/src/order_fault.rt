@@ -8,7 +8,7 @@ use thiserror::Error;
 /// What is wrong with a line of an order, or with its end.
 #[derive(Clone, Copy, Debug, PartialEq, Eq)]
 pub enum OrderFaultKind {
-    /// A byte that is no blank and not in `!` to `~` stands outside a comment.
+    /// A byte that is no blank and not in `!` to `~` is outside a comment.
     BadByte = 1,
     /// A line has more than one word.
     BadRow = 2,

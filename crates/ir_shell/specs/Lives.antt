@@ -29,7 +29,7 @@ use Rattle.ir_cli.specs.Openings.{opening_by}
 use Rattle.ir_answer.specs.Stops.{AnswersScripted}
 use Rattle.ir_answer.specs.Plays.{run_text}
 
--- want of memory for a command, which stands at a place among the commands
+-- want of memory for a command, which is at a place among the commands
 abbrev pub is_for_memory : ℕ × Refusal → Bool
 is_for_memory (place, refusals.NoMemory) = true
 is_for_memory (place, refusal) = false
@@ -57,15 +57,15 @@ abbrev pub RefusesNet : Adjacency → Words → ℕ → OpenError → Type 0
 RefusesNet g words root e =
     IsNetRefusal (opening_by words (topology_of_graph g) root) e ⊎ ((e ≡ openings.TooManyReaders) × (net : Net) × IsOpenedNet g words root net)
 
--- In the words of a runtime: for a refused push and a refused pop, for a look at a board, for a flag
--- that was set, for a thread that was not started, for a node that was shown as it came back, and for
--- an injector that was shown after the commands.
+-- In the words of a runtime: for a refused push and a refused pop, for a look at a board, for a flag that was set.
+-- Further for a thread that was not started, for a node that was shown as it came back, and for an injector that was
+-- shown after the commands.
 module _ {T Place : Type 0} (moments : Moments.Ghosts T Parcel Place)
     (looks : Looks.Ghosts T Parcel) (starter : Starter.Ghosts T) (rt : T) where
-  -- The commands of a script are carried out over such a net while its nodes turn on threads of their own, and none of them
-  -- wants memory. The text is the trace of the records that are reported, each of which is a
-  -- sound record by the plans of its epochs: epoch 1 has the plan that the words ask for, and each other epoch the one that
-  -- the install of the script asked for which it is of. The refused lines are those of the commands that were refused.
+  -- The commands of a script are carried out over such a net while its nodes turn on threads of their own, and none of
+  -- them wants memory. The text is the trace of the records that are reported, each of which is a sound record by the
+  -- plans of its epochs. Epoch 1 has the plan that the words ask for, and each other epoch the one that its install of
+  -- the script asked for. The refused lines are those of the commands that were refused.
   pub record IsLiveRun (g : Adjacency) (words : Words) (root : ℕ) (script : Listing Command) (text refused : List ℕ) : Type 0 where
     pub net : Net
     pub live : Live
@@ -77,8 +77,8 @@ module _ {T Place : Type 0} (moments : Moments.Ghosts T Parcel Place)
     pub trace : text ≡ run_text words.restamps (names g) (topology_of_graph g) live.report.records.items
     pub told : refused ≡ refusals_text script.lines live.refusals.items
 
-  -- the answer to a graph, a script and the number of a root: the script's live run, or the refusal of the opening; or the
-  -- thread of a node of a net that was opened was not started
+  -- the answer to a graph, a script and a root: the script's live run, the refusal of the opening, or
+  -- that the thread of a node of an opened net was not started
   abbrev pub AnswersLive : Adjacency → Words → Listing Command → ℕ → Answer → Type 0
   AnswersLive g words script root (Ran text refused) = IsLiveRun g words root script text refused
   AnswersLive g words script root (Found text) = ⊥

@@ -128,8 +128,8 @@ fn run_open<T: Threads + Moments<Parcel> + Looks<Parcel> + Starter + Sync>(
     run_live(rt, net, commands, &Open, &stop, rt)
 }
 
-/// The answer to a script and a net that was opened for it. Its parts were not handed out before; that they are not
-/// handed out is told as want of memory, and that the board has no place for a reader of each node as a refused
+/// The answer to a script and a net that was opened for it. Its parts were not handed out before. That they are not
+/// handed out is reported as want of memory, and that the board has no place for a reader of each node as a refused
 /// opening.
 fn answer_net<T: Threads + Moments<Parcel> + Looks<Parcel> + Starter + Sync>(
     rt: &T,

@@ -74,14 +74,13 @@ fn follow_live<
 }
 
 /// Reads a topology and a script, opens a net over the topology, carries out the script's commands while each node
-/// turns on a thread of its own, and writes the trace of the packets: of version 1 where no packet may be restamped,
-/// else of version 2. It is JSON where the words ask for that. Each command that is refused is a line `refused LINE
-/// NAME` of the faults.
+/// turns on a thread of its own, and writes the trace of the packets. The trace has version 1 where no packet may be
+/// restamped, else version 2. It is JSON where the words ask for that. Each command that is refused is a line `refused
+/// LINE NAME` of the faults.
 ///
 /// Condition: there is one reader where `words.is_one_input()`, whose text the first line that is exactly `%%` cuts
 /// into the two, and else one of the topology and one of the script. The answer is the exit status: 0 done; 1 an input
-/// is refused, or a reader or writer failed; 3 want of memory, also where a command wanted it, or a thread that was
-/// not started.
+/// is refused, or a reader or writer failed; 3 want of memory, also in a command, or a thread that was not started.
 pub fn run_live_text<
     T: Threads + Moments<Parcel> + Looks<Parcel> + Starter + Sync,
     R: Reader,
@@ -96,13 +95,13 @@ pub fn run_live_text<
 }
 
 /// Does what the words ask for over readers and writers, and answers what it came to, as values: how the run ended,
-/// what its lines of faults tell, and what a check found. `live` is carried out as by `run_live_text`, and all else as
+/// what its lines of faults say, and what a check found. `live` is carried out as by `run_live_text`, and all else as
 /// by `follow_by` of `ir_answer`.
 ///
 /// Conditions: an order is of no plan of kind Tree; the inputs are a reader for each text, or for
 /// `words.is_one_input()` one of all texts, which the first lines that are exactly `%%` cut. `status_of` has the exit
-/// status of an ending: 0 where all is done; 1 for an input that is refused, a finding, or a reader or writer that
-/// failed; 3 for want of memory, also where a step or a thread wanted it, or a thread of a node that was not started.
+/// status of an ending. It is 0 where all is done; 1 for a refused input, a finding, or a reader or writer that failed.
+/// It is 3 for want of memory, also in a step or a thread, or a node's thread that was not started.
 pub fn follow<
     T: Threads + Moments<Parcel> + Looks<Parcel> + Starter + Sync,
     C: Crew,

@@ -11,7 +11,7 @@ use Rattle.ir_show.proofs.LongestRuns.{AreDecided, longest_tables}
 
 -- ---- the first label with the fewest steps
 
--- of the first m labels behind the own one the first with the fewest steps
+-- of the first m labels after the own one the first with the fewest steps
 pub record IsFirstOf (n own : ℕ) (counts : List ℕ) (m t : ℕ) : Type 0 where
   pub off_own : 0 < t
   pub among : t ≤ m

@@ -66,7 +66,7 @@ one_greatest s u v x y =
     apart : (a b : ℕ) → a ≢ b → (a < b) ⊎ (b < a)
     apart a b ne = grind (arith, ne)
 
--- of two pairs that are not one the one stands before the other
+-- of two pairs that are not one the one is before the other
 in_order : (a b c d : ℕ) → ((a ≡ c) × (b ≡ d)) ⊎ (IsEarlier a b c d ⊎ IsEarlier c d a b)
 in_order a b c d = grind arith
 

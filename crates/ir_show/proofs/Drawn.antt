@@ -33,7 +33,7 @@ joined_more (f ∷ g ∷ fs) m =
     (ap (λ (b : Bool). shown ++ behind b) (not_none (length (g ∷ fs)) ∙ sym (not_none (length fs))) ∙ joined_more (g ∷ fs) m)
 
 module _ (test : PortInterval → Bool) (ms : List PortInterval) (i : ℕ) (i_in : i < length ms) where
-  -- one that passes is shown, behind a space if another was
+  -- one that passes is shown, after a space if another was
   pub shown_more : (old : List ℕ) (first : Bool) → first ≡ (length (filter test (take i ms)) == 0) → test (get_or ms i no_interval) ≡ true
       → (old ++ shown_intervals test (take i ms)) ++ separated first (interval_text (get_or ms i no_interval)) ≡ old ++ shown_intervals test (take (i + 1) ms)
   shown_more old first e passes_test =

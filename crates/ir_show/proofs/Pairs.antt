@@ -39,7 +39,7 @@ before_next u d x y e =
     (λ same. ⊎_elim (λ (eq : u ≡ x). inr (eq, same.0)) (λ (ne : u ≢ x). inl (inr (same.0, omega (arith, same.1, ne)))) (cases_eq u x))
     e
 
--- one that stands before a second does not stand after it, and before a third if the second does
+-- one that is before a second is not after it, and before a third if the second is
 not_itself : (u d x y : ℕ) → u ≡ x → d ≡ y → IsEarlier u d x y → ⊥
 not_itself u d x y e f h = ⊎_elim (λ less. omega (arith, less, e)) (λ same. omega (arith, same.1, f)) h
 
@@ -149,7 +149,7 @@ module _ (n : ℕ) (walk distance : ℕ → ℕ → ℕ) where
           let P : ℕ → ℕ → Type 0 = λ v w. IsEarlier v w a b → walk v w * distance a b < walk a b * distance v w in
           subst (λ v. P v d) (sym e) (subst (λ w. P x w) (sym f) no_tie)
 
-  -- behind the pairs to a node those to the next one follow
+  -- after the pairs to a node those to the next one follow
   back : (u d y : ℕ) → u < n → IsSeen u d 0 (y + 1) → IsSeen u d n y
   back u d y hu e = grind (arith, hu, e)
 

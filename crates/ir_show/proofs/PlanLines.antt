@@ -38,7 +38,7 @@ walk_leads net table u d p (x ∷ y ∷ rest) walk ne port =
 start_label : (n own : ℕ) (ports : List (Option ℕ)) (d : ℕ) → IsStart n own ports d → (d < n) × (d ≢ own)
 start_label n own ports d h = ⊎_elim (λ change. (change.0, change.1)) (λ only. (only.0, only.1)) h
 
--- a start of a node's row stands at a label, and not at the node's own
+-- a start of a node's row is at a label, and not at the node's own
 pub start_within : (s : Plan) → IsPlan s → (u k : ℕ) → u < node_count s.topology → k < length (row_in s u)
     → ((get_or (row_in s u) k no_start).label < node_count s.topology) × ((get_or (row_in s u) k no_start).label ≢ label_in s u)
 start_within s is u k u_in k_in =
@@ -123,7 +123,7 @@ range_more a (suc n) =
     let sum : (a + 1) + n ≡ a + suc n = omega arith in
     ap (range_with_len a) one ∙ ap (λ ks. a ∷ ks) (range_more (a + 1) n ∙ ap (λ k. range_with_len (a + 1) n ++ k ∷ []) sum)
 
--- two ranges, one behind the other
+-- two ranges, one after the other
 pub range_joined : (a m n : ℕ) → range_with_len a m ++ range_with_len (a + m) n ≡ range_with_len a (m + n)
 range_joined a zero n =
     let from : a + zero ≡ a = omega arith in

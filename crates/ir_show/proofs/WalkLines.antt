@@ -126,7 +126,7 @@ found_here row d i i_in from has =
     let one : find (has_label d) (x ∷ drop (i + 1) ms) ≡ Some x = rw has refl in
     ap (λ o. unwrap_or o no_interval) (from ∙ ap (find (has_label d)) (drop_more ms i no_interval within) ∙ one)
 
--- or it stands further on
+-- or it is further on
 pub found_later : (row : List Start) (d i : ℕ) → i < length row → IsFoundFrom row d i → has_label d (get_or (intervals_of row) i no_interval) ≡ false → IsFoundFrom row d (i + 1)
 found_later row d i i_in from has =
     let ms = intervals_of row in

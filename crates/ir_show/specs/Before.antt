@@ -4,7 +4,7 @@ use Rattle.ir_trace.specs.Rows.{spaced}
 use Rattle.ir_show.specs.declared.worst.Weighed.{Weighed}
 use Rattle.ir_show.specs.StatsText.{IsEarlier}
 
--- a word, behind a space if it is not the first
+-- a word, after a space if it is not the first
 abbrev pub separated : Bool → List ℕ → List ℕ
 separated first word = if first then word else spaced word
 

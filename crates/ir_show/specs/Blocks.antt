@@ -11,7 +11,7 @@ use Rattle.ir_show.specs.declared.plan_text.Pieces.{Pieces}
 use Rattle.ir_show.specs.PlanText.{node_words, start_words}
 use Rattle.ir_show.specs.Words.{line_text}
 
--- for each number below this one its word, behind a space
+-- for each number below this one its word, after a space
 abbrev pub AreSpaced : (ℕ → List ℕ) → ℕ → List (List ℕ) → Type 0
 AreSpaced word count texts = texts ≡ map (λ k. spaced (word k)) (range_with_len 0 count)
 
@@ -26,7 +26,7 @@ pub record ArePieces (pieces : Pieces) : Type 0 where
 abbrev pub IsBlock : ℕ → TextBlock → Type 0
 IsBlock nodes block = (block.from ≤ block.to) × (block.to ≤ nodes)
 
--- a start of a node's row and the name of the neighbour at its port, each behind a space
+-- a start of a node's row and the name of the neighbour at its port, each after a space
 abbrev pub start_text : Pieces → ℕ → ℕ → List ℕ
 start_text pieces u i = flat_map spaced (start_words (names pieces.graph) pieces.plan.topology u (slice_index_or (row_in pieces.plan u) i (record { label = 0; port = 0 })))
 

@@ -11,7 +11,7 @@ escaped text = flat_map escaped_byte text
 abbrev pub quoted : List ℕ → List ℕ
 quoted text = 34 ∷ escaped text ++ 34 ∷ []
 
--- What stands up to the first quote that has no backslash before it, without the backslashes that stand before a byte, and
+-- What is up to the first quote that has no backslash before it, without the backslashes that are before a byte, and
 -- what follows; whether a backslash came before.
 abbrev pub read_on : Bool → List ℕ → Option (List ℕ × List ℕ)
 read_on after [] = None

@@ -36,7 +36,7 @@ pub record IsGreatestAmong (plan : Plan) (count u : ℕ) : Type 0 where
 abbrev pub IsGreatestRow : Plan → ℕ → Type 0
 IsGreatestRow plan u = IsGreatestAmong plan (node_count plan.topology) u
 
--- the pair u, d stands before a, b: by the first node, then by the second
+-- the pair u, d is before a, b: by the first node, then by the second
 abbrev pub IsEarlier : ℕ → ℕ → ℕ → ℕ → Type 0
 IsEarlier u d a b = (u < a) ⊎ ((u ≡ a) × (d < b))
 

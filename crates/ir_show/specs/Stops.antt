@@ -19,7 +19,7 @@ pub record IsStopOf (plan : Plan) (b : ℕ) (stop : WalkStop) : Type 0 where
   pub end : stop.end ≡ (interval_with (row_in plan stop.node) (label_in plan b)).end
   pub hop : next_hop plan stop.node b ≡ Some stop.hop
 
--- the nodes of the stops, and b behind them
+-- the nodes of the stops, and b after them
 abbrev pub stop_nodes : List WalkStop → ℕ → List ℕ
 stop_nodes stops b = map (λ (s : WalkStop). s.node) stops ++ b ∷ []
 

@@ -126,8 +126,8 @@ fn stops_between(
 /// if it has any, and no tour is sought (`needs_no_tour`).
 ///
 /// Refused as the plan is (`Plan::build_by`). Takes O(w (n + m) log n), for w nodes of the walk, n nodes of the network
-/// and m links, and of kind Compact for each node of the walk what `ir_compile::ports_of_runs` takes and O(n + m) for
-/// each of its ports; O(n + m) memory.
+/// and m links, and O(n + m) memory. Of kind Compact it also takes for each node of the walk what
+/// `ir_compile::ports_of_runs` takes, and O(n + m) for each of its ports.
 pub fn walk_text_alone(
     alloc: Global,
     graph: &Graph,

@@ -123,7 +123,7 @@ fn goes_by(plan: &Plan, u: u16, link: u16, interval: Interval) -> bool
     plan.hop(u, interval.port).link == link
 }
 
-/// Writes an interval, behind a space if it is not the first.
+/// Writes an interval, after a space if it is not the first.
 fn push_separated(text: &mut String, interval: Interval, first: bool) -> TextResult
     ensures { OnOk result (string_bytes text.new ≡ string_bytes text.old
         ++ separated first (interval_text (as_interval interval))) }

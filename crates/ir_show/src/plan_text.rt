@@ -208,7 +208,7 @@ fn pour_plan<W: Writer>(parts: &mut TextParts, writer: &mut W, pieces: &Pieces)
     pour_block(parts, writer, pieces, TextBlock { from: 0, to: nodes });
 }
 
-/// Where a block of nodes from one on ends: where their rows have `BLOCK_STARTS` starts, or behind the last.
+/// Where a block of nodes from one on ends: where their rows have `BLOCK_STARTS` starts, or after the last.
 fn block_end(plan: &Plan, from: usize) -> usize
     requires { from < node_count plan.now.topology }
     ensures some { from < result }
@@ -256,8 +256,8 @@ fn pour_plan_by<C: Crew, W: Writer>(
     }
 }
 
-/// What the writing of a plan's text wants beside graph and plan: a space and a number, a space and
-/// a name, for each node, and the parts of a text of which nothing has come yet.
+/// What the writing of a plan's text needs beside graph and plan: for each node a space and a
+/// number, and a space and a name. Also the parts of a text of which nothing has come yet.
 fn wanted_texts(
     alloc: Global,
     graph: &Graph,

@@ -19,7 +19,7 @@ fn push_escaped_byte(text: &mut String, byte: u8) -> TextResult
     text.push(byte as char)
 }
 
-/// Writes a word as it stands between quotes.
+/// Writes a word as it is between quotes.
 fn push_escaped(text: &mut String, word: &str) -> TextResult
     requires { is_word word.now ≡ true }
     ensures { OnOk result (string_bytes text.new ≡ string_bytes text.old ++ escaped word.now) }
@@ -31,7 +31,7 @@ fn push_escaped(text: &mut String, word: &str) -> TextResult
     Ok(())
 }
 
-/// Writes the name of a node as it stands between quotes.
+/// Writes the name of a node as it is between quotes.
 pub fn push_escaped_name(text: &mut String, graph: &Graph, u: u16) -> TextResult
     requires { u < length graph.now }
     ensures { OnOk result (string_bytes text.new ≡ string_bytes text.old ++ escaped (name_at (names graph.now) u)) }

@@ -1,4 +1,4 @@
--- A text behind others in a list of bytes.
+-- A text after others in a list of bytes.
 use Rattle.std.proofs.Common.{◌≡◌, ℕ, suc, ◌+◌, ◌-◌, ◌≤◌, List, [], ◌∷◌, ◌++◌, take, drop, length, map, All, refl, ap, sym, ◌∙◌, arith}
 use Rattle.std.proofs.lemmas.List.{take_all, take-append-le, drop_at, drop-append-le, length-drop, map_push, length-take-le}
 use Rattle.std.proofs.Math.Seq.{take-append-add}
@@ -30,7 +30,7 @@ module _ (xs ys : List ℕ) where
       ∙ ap (λ (ts : List (List ℕ)). ts ++ text_of (xs ++ ys) (length xs, length xs + length ys) ∷ []) (texts_stay spans all)
       ∙ ap (λ (t : List ℕ). map (text_of xs) spans ++ t ∷ []) text_added
 
--- bytes are put behind the first ones of others
+-- bytes are put after the first ones of others
 pub front_put : (a m : ℕ) (xs ys rest : List ℕ) → a ≤ length xs → m ≤ length ys → take (a + m) (take a xs ++ (ys ++ rest)) ≡ take a xs ++ take m ys
 front_put a m xs ys rest within fits =
     ap (λ (k : ℕ). take (k + m) (take a xs ++ (ys ++ rest))) (sym (length-take-le a xs within))

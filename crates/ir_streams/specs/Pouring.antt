@@ -30,7 +30,7 @@ module _ {W : Type 0} (contents : W → Option (List ℕ)) (wrote : W → List �
   Puts true first text last rest = TakesAllBut first text last rest
   Puts false first text last rest = Breaks first text last
 
-  -- More of a text comes behind what is kept back of it: what the writer is given, and what is kept back then. Nothing is
+  -- More of a text comes after what is kept back of it: what the writer is given, and what is kept back then. Nothing is
   -- once a write failed, and then no write is made.
   abbrev pub Pours : W → Option (List ℕ) → List ℕ → W → Option (List ℕ) → Type 0
   Pours first None more last after = (last ≡ first) × (after ≡ None)

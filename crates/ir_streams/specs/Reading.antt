@@ -38,8 +38,8 @@ module _ {R : Type 0} (remaining : R → Option (List ℕ)) (gave : R → Result
     pub known : Consumes (remaining first) (remaining last) text
     pub nothing_left : IsAtEnd (remaining last)
 
-  -- Why the reader was given up: its last call failed, and none before it; or it gave too many bytes, or was called too
-  -- often; or memory was wanting, where it may have come to its end. These bytes it gave.
+  -- Why the reader was given up: its last call failed, and none before it. Or it gave too many bytes, or was called too
+  -- often. Or memory was wanting, where it may have come to its end. These bytes it gave.
   abbrev pub Stops : NoInput → R → List (Result (List ℕ) CallError) → List ℕ → R → Type 0
   Stops Unreadable first calls text last = (mid : R) × Gives first calls text mid × gave mid (Err Failed) last
   Stops TooLarge first calls text last = Gives first calls text last × ((MAX_INPUT_BYTES < length text) ⊎ (length calls ≡ MAX_READS))

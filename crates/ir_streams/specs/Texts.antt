@@ -1,4 +1,4 @@
--- Texts that stand one behind the other in a list of bytes.
+-- Texts that are one after the other in a list of bytes.
 use Rattle.std.specs.Prelude.{ℕ, ◌≤◌, List, length, map, All, slice_range}
 use Rattle.ir_streams.specs.declared.texts.Texts.TheInside.{Inside}
 

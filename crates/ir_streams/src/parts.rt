@@ -15,7 +15,7 @@ const SHORT_BYTES: usize = 16;
 /// By how many bytes what is kept back grows for short texts.
 const MORE_BYTES: usize = 4096;
 
-/// Keeps bytes back behind others. Condition: together they are a part at most.
+/// Keeps bytes back after others. Condition: together they are a part at most.
 fn keep(kept: &mut Vec<u8>, bytes: &[u8])
     requires capacity { PART_BYTES ≤ vec_capacity kept.old }
     requires bytes { length kept.old.items + length bytes.now ≤ PART_BYTES }
@@ -25,7 +25,7 @@ fn keep(kept: &mut Vec<u8>, bytes: &[u8])
     let _kept = kept.extend_from_slice(bytes);
 }
 
-/// Puts bytes behind the first `count` of others; `more` of them count.
+/// Puts bytes after the first `count` of others; `more` of them count.
 #[inline(always)]
 fn put_front(kept: &mut [u8], count: usize, bytes: &[u8], more: usize) -> usize
     requires room { count + length bytes.now ≤ length kept.old }
@@ -38,7 +38,7 @@ fn put_front(kept: &mut [u8], count: usize, bytes: &[u8], more: usize) -> usize
     count + more
 }
 
-/// Writes parts of what is kept back and these bytes behind it, and keeps the rest back. Returns
+/// Writes parts of what is kept back and these bytes after it, and keeps the rest back. Returns
 /// false where a write failed; none is made then.
 fn pour<W: Writer>(kept: &mut Vec<u8>, writer: &mut W, bytes: &[u8]) -> bool
     requires { IsRoom kept.old }

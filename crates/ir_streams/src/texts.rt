@@ -5,7 +5,7 @@ ghost use Rattle.ir_streams.specs.Texts.{pooled_texts, ArePooled};
 use std::alloc::{AllocError, Global};
 use std::marker::Model;
 
-/// Texts one behind the other, each with where it begins and where it ends.
+/// Texts one after the other, each with where it begins and where it ends.
 #[derive(Drop)]
 pub struct Texts {
     bytes: Vec<u8>,
@@ -38,7 +38,7 @@ impl Texts {
         self.spans.len()
     }
 
-    /// One more text behind the others. It is refused for memory alone; then they are as they were.
+    /// One more text after the others. It is refused for memory alone; then they are as they were.
     pub fn push(&mut self, text: &[u8]) -> Result<(), AllocError>
         ensures more { OnOk result (self.new ≡ self.old ++ text.now ∷ []) }
     {

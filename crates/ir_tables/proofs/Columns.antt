@@ -80,7 +80,7 @@ columns_push P cols d column len before here k e lt =
 
 -- ---- columns of listed ports
 
--- one more port behind those of the first nodes
+-- one more port after those of the first nodes
 pub read_next : (f : ℕ → Option ℕ) (k : ℕ) (held more : List (Option ℕ)) (x : Option ℕ) → length held ≡ k → ((v : ℕ) → v < k → slice_index_or held v None ≡ f v) → more ≡ held ++ x ∷ [] → x ≡ f k
     → (length more ≡ k + 1) × ((v : ℕ) → v < k + 1 → slice_index_or more v None ≡ f v)
 read_next f k held more x len before is own = (ap (λ (xs : List (Option ℕ)). length xs) is ∙ length_push held x ∙ ap (λ (j : ℕ). j + 1) len, at)

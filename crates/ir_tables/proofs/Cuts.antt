@@ -1,4 +1,4 @@
--- Rows that lie one behind the other: a row is read, and a row is put behind the others.
+-- Rows that lie one after the other: a row is read, and a row is put after the others.
 use Rattle.std.proofs.Common.{◌≡◌, ℕ, zero, suc, ◌+◌, ◌-◌, ◌<◌, ◌≤◌, List, [], ◌∷◌, ◌++◌, length, take, drop, refl, ap, sym, ◌∙◌, get_or, arith}
 use Rattle.std.proofs.lemmas.List.{take-append-le, drop-append-le, length-append, length-drop, take_all, get_or_read}
 use Rattle.std.proofs.Math.Seq.{drop-append_seam}
@@ -58,7 +58,7 @@ row_at (begin ∷ ends) hops u l is =
     let e : u + 1 ≡ suc u = omega arith in
     rw e (row_by begin ends hops u (omega (arith, l)) is)
 
--- there is a place behind that of a row
+-- there is a place after that of a row
 pub place_behind : (begins : List ℕ) (hops : List Hop) (rows : List (List Hop)) (u : ℕ) → AreCuts begins hops → rows_in begins hops ≡ rows → u < length rows → u + 1 < length begins
 place_behind begins hops rows u are is l = let few = cuts_length begins hops are in let e = ap (λ (xs : List (List Hop)). length xs) is in omega (arith, few, e, l)
 

@@ -1,4 +1,4 @@
--- Which ports lead nearer, told by the distances from one node.
+-- Which ports lead nearer, given by the distances from one node.
 use Rattle.std.proofs.Common.{◌≡◌, ◌≢◌, ℕ, ◌+◌, ◌<◌, ◌≤◌, List, [], ◌∷◌, ◌++◌, Some, refl, ap, sym, subst, arith}
 use Rattle.ir_model.specs.declared.Hop.{Hop}
 use Rattle.ir_model.specs.Topology.{Topology, node_count, port_at, IsTopology}

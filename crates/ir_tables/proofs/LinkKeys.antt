@@ -53,7 +53,7 @@ same_ends low high a b lt lt' same = (omega (arith, lt, lt', same), omega (arith
 
 module _ (links : List Link) (keys : List ℕ) (few : length links ≤ 65536) (ordered : AreOrdered links) (h : AreLinkKeys links keys)
     (u v ends place : ℕ) (ends_are : ends ≡ ends_key (min u v) (max u v)) (point : IsPartitionPoint (λ y. ltb y (ends * 65536) ≡ true) (λ y. ltb y (ends * 65536) ≡ false) keys place) where
-  -- where a link joins them, the key at the place is none of lesser ends, nor behind that link's own
+  -- where a link joins them, the key at the place is none of lesser ends, nor after that link's own
   record IsFound (k : ℕ) : Type 0 where
     pub within : place < length keys
     pub from : ends * 65536 ≤ get_or keys place 0

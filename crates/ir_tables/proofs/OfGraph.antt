@@ -145,7 +145,7 @@ module _ (g : Adjacency) (graph : IsGraph g) where
       (λ (other : bytes_eq x e.0 ≡ false). let other' : (place_of g e.0 == u) ≡ false = sym here ∙ other in rw (other, other') (cc (port, later)))
       (cases_Bool (bytes_eq x e.0))
 
-  -- what stands in a row, by place
+  -- what is in a row, by place
   in_row : (u : ℕ) (r : Name × Neighbors) → slice_get g u ≡ Some r → neighbors_at g u ≡ r.1
   in_row u r at = ap (λ (o : Option (Name × Neighbors)). option_map_or (λ (r : Name × Neighbors). r.1) o []) at
 

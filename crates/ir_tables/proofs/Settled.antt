@@ -21,7 +21,7 @@ settled_below net ok d f done u (v ∷ rest) way =
     let weight : link_weight net u v ≡ way.0.1.weight = subst P way.0.3 (link_weight_at net ok u way.0.0 way.0.1 way.0.2) in
     omega (arith, step, later, here, weight)
 
--- a settled f is the distance wherever it tells the weight of a way
+-- a settled f is the distance wherever it gives the weight of a way
 pub distance_from_settled : (net : Topology) → IsTopology net → (d : ℕ) (f : ℕ → ℕ) → IsSettled net d f → (u : ℕ) → IsReached net d f u → IsDistance net u d (f u)
 distance_from_settled net ok d f done u way =
     record { reached = (u ∷ way.0, (refl, way.1), way.2); least = least_of }
@@ -32,7 +32,7 @@ distance_from_settled net ok d f done u way =
         let way' : LeadsTo net x d rest = subst P (sym is.0) is.1 in
         omega (arith, e, settled_below net ok d f done x rest way')
 
--- where a settled f tells the weight of a way at each node below the bound, each node with a way is below the bound
+-- where a settled f gives the weight of a way at each node below the bound, each node with a way is below the bound
 pub settled_within : (net : Topology) → IsTopology net → (d bound : ℕ) (f : ℕ → ℕ) → IsSettled net d f → 65535 * node_count net < bound
     → ((u : ℕ) → u < node_count net → f u < bound → IsReached net d f u)
     → (u : ℕ) (rest : List ℕ) → LeadsTo net u d rest → f u < bound

@@ -8,7 +8,7 @@ use Rattle.ir_model.specs.Walk.{LeadsTo, weight_from}
 use Rattle.ir_tables.specs.declared.keyed.Frontier.{Frontier}
 use Rattle.ir_tables.specs.Relaxation.{at}
 
--- a key: a weight, and behind it a port
+-- a key: a weight, and after it a port
 abbrev pub key_of : ℕ → ℕ → ℕ
 key_of weight port = weight * 65536 + port
 
@@ -21,7 +21,7 @@ pub record IsStepKey (u x p weight added : ℕ) : Type 0 where
   pub first : x ≡ u → added ≡ key_of weight p
   pub later : x ≢ u → added ≡ key_of weight 0
 
--- the key of a way from u to v, which the port p begins; told from v on
+-- the key of a way from u to v, which the port p begins; given from v on
 pub record IsKeyed (net : Topology) (u v key : ℕ) : Type 0 where
   pub p : ℕ
   pub hop : Hop
@@ -47,7 +47,7 @@ pub record AreKeys (net : Topology) (u : ℕ) (keys : List ℕ) : Type 0 where
   pub ways : AreKeysOfWays net u keys
   pub spent : (x : ℕ) → IsSpentKey net u keys x
 
--- an entry of the frontier: a node behind the key that it had
+-- an entry of the frontier: a node after the key that it had
 abbrev pub KeyEntry : Type 0
 KeyEntry = Reverse ℕ
 

@@ -31,7 +31,7 @@ link_between links u v = position_or_len (joins_nodes u v) links
 abbrev pub ends_key : ℕ → ℕ → ℕ
 ends_key low high = low * 65536 + high
 
--- the key of the link with number l: its ends, and behind them its number
+-- the key of the link with number l: its ends, and after them its number
 abbrev pub link_key : Link → ℕ → ℕ
 link_key link l = ends_key link.low link.high * 65536 + l
 

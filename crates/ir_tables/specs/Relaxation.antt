@@ -14,7 +14,7 @@ pub record IsSettled (net : Topology) (d : ℕ) (f : ℕ → ℕ) : Type 0 where
   pub end : f d ≡ 0
   pub tight : IsTight net f
 
--- f tells at u the weight of a way
+-- f gives at u the weight of a way
 abbrev pub IsReached : Topology → ℕ → (ℕ → ℕ) → ℕ → Type 0
 IsReached net d f u = (rest : List ℕ) × LeadsTo net u d rest × (weight_from net u rest ≡ f u)
 

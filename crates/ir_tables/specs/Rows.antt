@@ -1,4 +1,4 @@
--- Rows that lie one behind the other in one list.
+-- Rows that lie one after the other in one list.
 use Rattle.std.specs.Prelude.{◌≡◌, ◌-◌, ◌≤◌, ℕ, List, [], ◌∷◌, length, take, drop}
 use Rattle.ir_model.specs.declared.Hop.{Hop}
 

@@ -9,7 +9,7 @@ use ir_graph::Graph;
 use ir_model::{Hop, Link};
 use std::alloc::{AllocError, Global};
 
-/// Puts the links from a node to later nodes behind those that are there.
+/// Puts the links from a node to later nodes after those that are there.
 fn push_links(graph: &Graph, u: usize, links: &mut Vec<Link>) -> Result<(), AllocError>
     requires { u < length graph.now }
     ensures { OnOk result (links.new.items ≡ links.old.items

@@ -1,5 +1,5 @@
-//! Keys of the nodes from one node: the weight of a way, and behind it the port that begins it. The least key of a node
-//! tells its distance and the least port that leads nearer to it, in one run.
+//! Keys of the nodes from one node: the weight of a way, and after it the port that begins it. The least key of a node
+//! gives its distance and the least port that leads nearer to it, in one run.
 ghost use Rattle.std.specs.Prelude.{◌≡◌, ◌↔◌, ℕ, ◌+◌, ◌*◌, ◌<◌, ◌≤◌, [], ◌∷◌, length, sum, IfOk, OnOk, IsTrue, IsPermutation};
 ghost use Rattle.ir_model.specs.Topology.{node_count};
 ghost use Rattle.ir_tables.specs.Keys.{AreKeys, IsFresh, IsKeying, IsStepKey, KeepsFresh, NoNode, Only, load, keys_waiting};
@@ -9,14 +9,14 @@ use std::alloc::{AllocError, Global};
 use std::cmp::Reverse;
 use std::collections::BinaryHeap;
 
-/// What a key has for each unit of weight: more than any port. So much has an entry of the frontier for each unit of
-/// its key, which is more than any node.
+/// What a key has for each unit of weight: more than any port. An entry of the frontier is its key times this, plus
+/// its node: this is more than any node too.
 pub const UNIT: u64 = 65_536;
 
 /// The key that stands for no way found yet.
 pub const NO_KEY: u64 = 281_474_976_645_120;
 
-/// Nodes that wait, each behind the key that it had: near ones up to a limit, the least first, and far ones in no
+/// Nodes that wait, each after the key that it had: near ones up to a limit, the least first, and far ones in no
 /// order. Most of what waits is far, and gone by the time that the limit comes to it, since its node has a lesser key
 /// by then.
 #[derive(Drop)]

@@ -6,7 +6,7 @@ ghost use Rattle.ir_tables.specs.Numbered.{AreLinkKeys, AreOrdered, ends_key, li
 use ir_model::Link;
 use std::alloc::{AllocError, Global};
 
-/// What a key has for each unit of what stands before: more than any node, and than any link's number.
+/// What a key has for each unit of what is before: more than any node, and than any link's number.
 const UNIT: u64 = 65_536;
 
 /// The key of two ends, the smaller first.
@@ -16,7 +16,7 @@ fn ends_key(low: u16, high: u16) -> u64
     low as u64 * UNIT + high as u64
 }
 
-/// The keys of the links, in ascending order. A link's key has its ends, the smaller first, and behind them its number.
+/// The keys of the links, in ascending order. A link's key has its ends, the smaller first, and after them its number.
 pub fn link_keys(alloc: Global, links: &[Link]) -> Result<Vec<u64>, AllocError>
     ensures { IfOk result (λ keys. AreLinkKeys links.now keys.items) }
 {

@@ -6,7 +6,7 @@ use ir_model::Hop;
 use std::alloc::{AllocError, Global};
 use std::marker::Model;
 
-/// The ports of each node, in order. They lie one behind the other, with the place where each node's begin: a search
+/// The ports of each node, in order. They lie one after the other, with the place where each node's begin. A search
 /// goes from node to node, and would else look up where each node's ports lie, which costs as much as the ports.
 #[derive(Drop)]
 pub struct PortRows {

@@ -154,7 +154,7 @@ impl Table {
     /// The table of a list of ports: place `u * n + d` of the list holds the port at node `u` for the destination `d`,
     /// where there are `n` nodes. Its distances are the weights of the walks that the list prescribes.
     ///
-    /// Condition: the list has `n * n` entries, none stands exactly where `u` is `d`, each other entry is a port of
+    /// Condition: the list has `n * n` entries, none is there exactly where `u` is `d`, each other entry is a port of
     /// `u`, and from each node the ports lead to each destination. It is refused for memory alone. Takes O(n * n). For
     /// users of the library.
     pub fn from_ports(

@@ -112,7 +112,7 @@ fn is_known(alloc: Global, n: u16, case: &Case) -> bool {
     }
 }
 
-/// Whether the ports of a case as plain numbers have its starts, whatever stands at the own label.
+/// Whether the ports of a case as plain numbers have its starts, whatever is at the own label.
 fn is_row_of_ports(alloc: Global, n: u16, case: &Case) -> bool {
     let mut plain = Vec::new(alloc);
     for port in case.ports {

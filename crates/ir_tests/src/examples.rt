@@ -1,4 +1,4 @@
-//! The examples in the doc comments of graphs, plans and worlds: the lines of each stand here.
+//! The examples in the doc comments of graphs, plans and worlds: the lines of each are here.
 
 use ir_core::{Event, Fate, Kind, World};
 use ir_graph::Graph;

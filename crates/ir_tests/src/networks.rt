@@ -1,4 +1,4 @@
-//! Networks that tests of several crates stand on.
+//! Networks that tests of several crates use.
 
 use ir_graph::Graph;
 use ir_tables::Topology;

@@ -1,4 +1,4 @@
-//! Ports told as the fewest lines of a forwarding table, longest first.
+//! Ports given as the fewest lines of a forwarding table, longest first.
 
 use ir_compile::is_destinations;
 use ir_prefix::{TableLine, disjoint_lines, forwarding_lines, width};

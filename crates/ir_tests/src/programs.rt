@@ -23,7 +23,7 @@ fn split(alloc: Global, line: &str) -> Option<Vec<String>> {
     Some(words)
 }
 
-/// What a line of words behind this name of the program asks for, or why it is refused.
+/// What a line of words after this name of the program asks for, or why it is refused.
 fn asked_by(alloc: Global, called: Called, line: &str) -> Result<Words, WordsError>
     ensures { IfOk result (λ words. FitsItsKind words) }
 {
@@ -105,7 +105,7 @@ fn prints_of(alloc: Global, words: &Words, text: &str, wanted: (u8, &str, &str))
         && faults.as_slice() == told.as_bytes()
 }
 
-/// Whether a line of words behind the program's name does.
+/// Whether a line of words after the program's name does.
 fn prints(alloc: Global, line: &str, text: &str, wanted: (u8, &str, &str)) -> bool {
     match asked_by(alloc, Called::Route, line) {
         Ok(words) => prints_of(alloc, &words, text, wanted),
@@ -134,7 +134,7 @@ fn a_plan_a_run_and_a_check(rt: HostRuntime) {
     assert!(rt; prints(rt.alloc(), "check -", text, (0, "ok 1\n", "")));
 }
 
-/// What is told, as a value, of words over a text on standard input.
+/// What is reported, as a value, of words over a text on standard input.
 fn told_of_words(alloc: Global, words: &Words, text: &str) -> Option<Told>
     requires { FitsItsKind words.now }
 {

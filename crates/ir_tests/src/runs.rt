@@ -1,4 +1,4 @@
-//! Runs of steps that were played by hand: what each step is told, and what becomes of each packet.
+//! Runs of steps that were played by hand: the reply to each step, and what becomes of each packet.
 
 use crate::networks::{HEAVY, PATH, RING};
 use crate::openings::{Setting, along_tree};
@@ -8,7 +8,7 @@ use ir_core::{Fate, Kind, Played, Record, Refused, Reply, Restamp, Step, Way, pl
 use std::alloc::Global;
 use std::test::Fail;
 
-/// What a step is told: its place among the steps, and the reply.
+/// What is answered to a step: its place among the steps, and the reply.
 type Told = (usize, Result<Reply, Refused>);
 
 /// What became of a packet: its first epoch, its hops, its restamps and its fate.

@@ -262,7 +262,7 @@ fn tables_by_hand(rt: HostRuntime) -> Result<(), Fail> {
     Ok(())
 }
 
-/// A way that parts behind its second node, and joins again at the last one.
+/// A way that parts after its second node, and joins again at the last one.
 static JOINED: [Edge; 5] = [
     ("s", "v", 1),
     ("v", "x", 1),

@@ -86,8 +86,8 @@ fn is_full(world: &mut World) -> bool {
 }
 
 /// Changes of a board that has no further version, and why each is refused: link 0 is down, epoch 3 is the current one,
-/// and none is retired. That there are too many changes is told last, but before the links that are up are asked for a
-/// plan.
+/// and none is retired. That there are too many changes is reported last, but before the links that are up are asked for
+/// a plan.
 const PAST: [(Event, Refused); 10] = [
     (Event::Down(0), Refused::Same),
     (Event::Up(0), Refused::TooManyChanges),
@@ -111,7 +111,7 @@ fn are_refused(world: &mut World) -> bool {
     true
 }
 
-/// Whether two installs are changes too, and each change behind the last one is refused.
+/// Whether two installs are changes too, and each change after the last one is refused.
 fn is_full_of_all(world: &mut World) -> bool {
     let is_second = world.apply(Event::Install(Kind::Shortest, 0)) == Ok(Reply::Installed(2));
     let is_third = world.apply(Event::Install(Kind::Tree, 1)) == Ok(Reply::Installed(3));

@@ -45,7 +45,7 @@ hop_to t x d y e = by_port (table_port t x d) refl e
     by_port None is f = absurd (none-some y f)
     by_port (Some p) is f = by_hop p is (port_at t.topology x p) refl f
 
--- the ends of a link, told in two ways
+-- the ends of a link, given in two ways
 same_ends : (link : Link) (x v low high : ℕ) → Joins link x v → ArePair x v low high → low < high → link.low < link.high → (link.low ≡ low) × (link.high ≡ high)
 same_ends link x v low high (inl j) (inl p) lt up = (j.0 ∙ p.0, j.1 ∙ p.1)
 same_ends link x v low high (inl j) (inr p) lt up = absurd (omega (arith, j.0, j.1, p.0, p.1))

@@ -133,7 +133,7 @@ within_behind e n le = omega arith
 some_behind : (e : ℕ) → 0 < suc e
 some_behind e = omega arith
 
--- behind the first plan
+-- after the first plan
 plan_behind : (t : Plan) (plans : List Plan) (e : ℕ) → plan_at plans (suc e) ≡ plan_at (t ∷ plans) (suc (suc e))
 plan_behind t plans e = ap (λ (k : ℕ). slice_index_or plans k no_plan) (minus_one e) ∙ ap (λ (k : ℕ). slice_index_or (t ∷ plans) k no_plan) (sym (minus_one (suc e)))
 

@@ -21,7 +21,7 @@ use Rattle.ir_trace.specs.Leaving.{stands_after, last_epoch, IsStray, IsReachedB
 apart : (a b : ℕ) → a ≢ b → (a < b) ⊎ (b < a)
 apart a b ne = grind (arith, ne)
 
--- something stands only at places of a list
+-- something is only at places of a list
 within : {A : Type 0} (xs : List A) (i : ℕ) (x : A) → slice_get xs i ≡ Some x → i < length xs
 within [] i x at = absurd (cc at)
 within (y ∷ xs) zero x at = omega arith
@@ -63,7 +63,7 @@ module _ (t : Plan) (is : IsPlan t) (d : ℕ) (d_in : d < node_count t.topology)
 
 -- ---- parts
 
--- a part is joined to those before it, of a packet that stands at u under this epoch
+-- a part is joined to those before it, of a packet that is at u under this epoch
 record IsJoinedTo (plans : List Plan) (d u above : ℕ) (part : Segment) : Type 0 where
   pub rises : above < part.epoch
   pub begins : slice_get part.hops 0 ≡ Some u

@@ -106,7 +106,7 @@ module _ (net : Topology) (plans others : List Plan) (alike : RouteAlike plans o
 
 -- ---- the first finding
 
--- what stands in the front of some rows, and the rows before it
+-- what is in the front of some rows, and the rows before it
 in_front : (good rest : List TraceRow) (k : ℕ) (r : TraceRow) → k < length good → slice_get (good ++ rest) k ≡ Some r → (slice_get good k ≡ Some r) × (take k good ≡ take k (good ++ rest))
 in_front [] rest k r lt at = absurd (omega arith)
 in_front (x ∷ good) rest zero r lt at = (at, refl)
@@ -114,7 +114,7 @@ in_front (x ∷ good) rest (suc k) r lt at =
     let w = in_front good rest k r (omega arith) at in
     (w.0, ap (λ (rows : List TraceRow). x ∷ rows) w.1)
 
--- what stands behind it, and the rows before that
+-- what follows it, and the rows before that
 behind_front : (good : List TraceRow) (row : TraceRow) (after : List TraceRow) → (slice_get (good ++ row ∷ after) (length good) ≡ Some row) × (take (length good) (good ++ row ∷ after) ≡ good)
 behind_front [] row after = (refl, refl)
 behind_front (x ∷ good) row after =

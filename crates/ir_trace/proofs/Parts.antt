@@ -29,7 +29,7 @@ epoch_push : (epoch : ℕ) (parts : List Segment) (part : Segment) → last_epoc
 epoch_push epoch [] part = refl
 epoch_push epoch (p ∷ parts) part = epoch_push p.epoch parts part
 
--- the parts before part k are joined; the packet stands at `at`, and its epoch so far is `above`
+-- the parts before part k are joined; the packet is at `at`, and its epoch so far is `above`
 pub record AreFollowed (plans : List Plan) (d u : ℕ) (parts : List Segment) (k at above : ℕ) : Type 0 where
   pub joined : AreJoined plans d u 0 (take k parts)
   pub at_is : at ≡ stands_after u (take k parts)

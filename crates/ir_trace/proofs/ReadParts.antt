@@ -69,7 +69,7 @@ pub record AreReadTo (words : List Name) (parts : List PartText) (rest : List Na
 pub read_none : (words : List Name) → AreReadTo words [] words
 read_none words = record { whole = refl; each = refl; marks = refl; only = λ others are. (others, refl, sym are.words_are) }
 
--- what is true of each part of a list is true of each behind a front
+-- what is true of each part of a list is true of each after a front
 behind_front : (test : PartText → Bool) (xs ys zs : List PartText) → zs ≡ xs ++ ys → list_all test zs ≡ true → list_all test ys ≡ true
 behind_front test xs ys zs e h = (and_parts (list_all test xs) (list_all test ys) (sym (list_all-append test xs ys) ∙ ap (list_all test) (sym e) ∙ h)).1
 
@@ -216,7 +216,7 @@ segments_more words rest left segments items segment used pushed some read begin
     let Q : List PartText → Type 0 = λ ps. AreReadTo (texts words) ps (texts (drop used rest)) in
     subst P (sym (ap texts behind)) (subst Q (sym held) (read_part (texts words) (map part_held segments) (texts rest) (some_texts rest some) read (part_held segment) (texts (drop used rest)) begins))
 
--- a first word, and the words behind it
+-- a first word, and the words after it
 pub head_tail : (words : List (Bor (List ℕ))) (d : Bor (List ℕ)) → 1 ≤ length words → words ≡ get_or words 0 d ∷ take (length words - 1) (drop 1 words)
 head_tail [] d h = absurd (omega arith)
 head_tail (w ∷ ws) d h = ap (λ (t : List (Bor (List ℕ))). w ∷ t) (sym (take_rest (w ∷ ws) 1))

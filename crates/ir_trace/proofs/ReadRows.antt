@@ -50,7 +50,7 @@ fate_names_tail (Down x y) hops h = words_behind y hops (words_behind x (y ∷ h
 fate_names_tail (Full x y) hops h = words_behind y hops (words_behind x (y ∷ hops) h)
 fate_names_tail Left hops h = h
 
--- other words behind a fate
+-- other words after a fate
 fate_other : (fate : FateText) (hops rest : List Name) → list_all is_word (fate_names fate ++ hops) ≡ true → list_all is_word rest ≡ true → list_all is_word (fate_words fate ++ rest) ≡ true
 fate_other Delivered hops rest h k = k
 fate_other Retired hops rest h k = k

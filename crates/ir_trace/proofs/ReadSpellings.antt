@@ -11,7 +11,7 @@ use Rattle.ir_trace.specs.declared.row.Version.TheVariants.{One, Two}
 use Rattle.ir_trace.specs.Rows.{FateText, Delivered, Retired, Down, Full, Left, PartText, RowText, IsRowText, row_words, part_words, first_part, mark, fate_words, fate_names, hop_names, is_word, is_part_text, fits_version}
 use Rattle.ir_trace.specs.Spelled.{texts, Spells, SpellsNothing, IsNoNumber, IsNoFate, row_head, HasHead, HasNoHead, AreParts, AreNoParts}
 
--- ---- the words of a fate tell it
+-- ---- the words of a fate give it
 
 abbrev two : (Name → Name → FateText) → List Name → Option (FateText × List Name)
 two make [] = None
@@ -49,7 +49,7 @@ no_fate w ws delivered retired left down full (Down x y) hops e = down (cc (sym 
 no_fate w ws delivered retired left down full (Full x y) hops e = full (cc (sym e))
 no_fate w ws delivered retired left down full Left hops e = left (cc (sym e))
 
--- too few words behind the word of a fate with two names
+-- too few words after the word of a fate with two names
 short_two : (make : Name → Name → FateText) (ws : List (Bor (List ℕ))) → length ws < 2 → two make (texts ws) ≡ None
 short_two make [] short = refl
 short_two make (w ∷ []) short = refl
@@ -104,13 +104,13 @@ first_is text is =
     let P : List PartText → Type 0 = λ parts. list_all is_part_text parts ≡ true in
     part_is (first_part text.parts) (and_parts (is_part_text (first_part text.parts)) true (subst P (one_part text.parts is.version) is.parts)).0
 
--- ---- a word, and those of a head behind it
+-- ---- a word, and those of a head after it
 
 module _ (words : List Name) (first : Name) (tail : List Name) (words_are : words ≡ first ∷ tail) where
   pub no_id : IsNoNumber first → SpellsNothing One words
   no_id other text is = let same : row_words One text ≡ first ∷ tail = is.words_are ∙ words_are in other text.id is.text_is.id (cc same)
 
-  -- behind the id of a row stands a head with the epoch for its number
+  -- after the id of a row comes a head with the epoch for its number
   pub behind_id : (text : RowText) → Spells One words text
       → HasHead tail (record { id = (first_part text.parts).epoch; source = text.source; dest = text.dest; weight = text.weight; fate = text.fate; parts = [] }) (first_part text.parts).hops
   behind_id text is = let same : row_words One text ≡ first ∷ tail = is.words_are ∙ words_are in record { id = (first_is text is.text_is).epoch; weight = is.text_is.weight; whole = cc same }
@@ -150,7 +150,7 @@ module _ (words : List Name) (first : Name) (tail : List Name) (words_are : word
             (and_from (is_word head.dest) _ (first_word head.dest (decimal head.weight ∷ rest) from_dest)
             (ap (λ t. list_all is_word (fate_names head.fate ++ t)) (append-nil hops) ∙ tail_words head.fate hops (words_behind (decimal head.weight) rest (words_behind head.dest (decimal head.weight ∷ rest) from_dest))))
 
--- ---- five words, and the words behind them
+-- ---- five words, and the words after them
 
 abbrev at : List (Bor (List ℕ)) → ℕ → Name
 at words k = (get_or words k (record { ref_ptr = (0, 0); now = [] })).now

@@ -19,7 +19,7 @@ node_at n [] all i lt = absurd (omega arith)
 node_at n (u ∷ rest) all zero lt = ltb-true u n (and_parts (nat_lt u n) (list_all (λ x. nat_lt x n) rest) all).0
 node_at n (u ∷ rest) all (suc i) lt = node_at n rest (and_parts (nat_lt u n) (list_all (λ x. nat_lt x n) rest) all).1 i (omega arith)
 
--- the table leads from each of the first i hops but the last to the one behind it
+-- the table leads from each of the first i hops but the last to the one after it
 pub record AreSteps (t : Plan) (d : ℕ) (hops : List ℕ) (i : ℕ) : Type 0 where
   pub step : (k : ℕ) → suc k < i → next_of t (get_or hops k 0) d ≡ Some (get_or hops (suc k) 0)
 

@@ -172,7 +172,7 @@ trace_same g text a b h k =
     let same : k.0 ≡ h.0 = same_version k.0 h.0 text (flat_map (row_line k.0) k.1.0) (flat_map (row_line h.0) h.1.0) k.1.1 h.1.1 in
     in_same h.0 g text a b h.1 (subst (λ (v : Version). IsTraceIn v g text b) same k.1)
 
--- a row that can be read stands at the front
+-- a row that can be read is at the front
 record IsFront (v : Version) (g : Adjacency) (rest : List ℕ) : Type 0 where
   text : RowText
   row : TraceRow
@@ -187,7 +187,7 @@ front_of v g [] (row ∷ rows) t more are rest e = record { text = t; row = row;
 front_of v g (s ∷ front) [] t more are rest e = absurd are
 front_of v g (s ∷ front) (row ∷ rows) t more are rest e = front_of v g front rows t more are.2 rest e
 
--- what a fault stands at begins with a row that can be read
+-- what a fault is at begins with a row that can be read
 fault_front : (g : Adjacency) (text : List ℕ) (rows : List TraceRow) → IsTrace g text rows → (line : ℕ) (kind : FindingKind) (fault : IsFirstFault g text line kind) → IsFront fault.version g fault.rest
 fault_front g text rows all line kind fault = by found.0 found.1 found.2
   where

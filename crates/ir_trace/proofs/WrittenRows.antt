@@ -33,7 +33,7 @@ walk_within net u d (x ∷ rest) walk =
     let P : ℕ → Type 0 = λ y. list_all (λ z. nat_lt z (node_count net)) (y ∷ rest) ≡ true in
     subst P (sym walk.0) (leads_within net u d rest walk.1)
 
--- words with one space between: the first, and each other behind a space
+-- words with one space between: the first, and each other after a space
 pub join_spaced : (w : List ℕ) (ws : List (List ℕ)) → join_with_byte 32 (w ∷ ws) ≡ w ++ flat_map spaced ws
 join_spaced w [] = sym (append-nil w)
 join_spaced w (v ∷ vs) = ap (λ t. w ++ 32 ∷ t) (join_spaced v vs)

@@ -70,6 +70,6 @@ pub record AreSegmentsOf (g : Adjacency) (text : List ℕ) (records : List Recor
 
 -- ---- what is written is read again
 
--- The text of any records is read as their rows; no fault is told but want of memory.
+-- The text of any records is read as their rows; no fault is reported but want of memory.
 abbrev pub IsReadAsRows : (List Record → Type 0) → (Record → TraceRow) → Result (List TraceRow) Finding → Type 0
 IsReadAsRows is_text row result = (records : List Record) → is_text records → MatchResult result (λ trace. trace ≡ map row records) (λ e. e.kind ≡ NoMemory)

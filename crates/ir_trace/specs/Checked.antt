@@ -81,7 +81,7 @@ abbrev pub IsWholeWalk : Plan → ℕ → List ℕ → Type 0
 IsWholeWalk t d [] = ⊥
 IsWholeWalk t d (u ∷ rest) = IsPrescribedWalk t.topology (table_port t) u d (u ∷ rest)
 
--- From node u on the parts are joined end to end; their epochs rise, from above this one; and each is a prefix of the
+-- From node u on the parts are joined end to end, and their epochs rise, from above this one. Each is a prefix of the
 -- walk to d that the full table of its own epoch prescribes.
 abbrev pub AreJoined : List Plan → ℕ → ℕ → ℕ → List Segment → Type 0
 AreJoined plans d u above [] = Unit {0}

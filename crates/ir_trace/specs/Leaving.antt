@@ -11,7 +11,7 @@ use Rattle.ir_trace.specs.Inspect.{next_of, fits_fate, AreOver}
 use Rattle.ir_trace.specs.declared.departing.Departure.{Departure}
 use Rattle.ir_trace.specs.declared.departing.Departure.TheVariants.{Epoch, Start, Hop, Fate}
 
--- where a packet stands after these parts of its way, from node u on
+-- where a packet is after these parts of its way, from node u on
 abbrev pub stands_after : ℕ → List Segment → ℕ
 stands_after u [] = u
 stands_after u (part ∷ parts) = stands_after (last_of part.hops) parts
@@ -21,8 +21,8 @@ abbrev pub last_epoch : ℕ → List Segment → ℕ
 last_epoch epoch [] = epoch
 last_epoch epoch (part ∷ parts) = last_epoch part.epoch parts
 
--- Hop i of some hops leaves the walk to d: the hops before it are a front of the walk, and there is one; from the last of
--- them the plan's table sends on to `next`; and hop i is another node.
+-- Hop i of some hops leaves the walk to d. The hops before it are a front of the walk, and there is one; from the last
+-- of them the plan's table sends on to `next`, and hop i is another node.
 pub record IsStray (t : Plan) (d : ℕ) (hops : List ℕ) (i : ℕ) (next : Option ℕ) : Type 0 where
   pub front : IsFrontOfWalk t d (take i hops)
   pub next_is : next ≡ next_of t (last_of (take i hops)) d
@@ -30,8 +30,8 @@ pub record IsStray (t : Plan) (d : ℕ) (hops : List ℕ) (i : ℕ) (next : Opti
   pub hop_is : slice_get hops i ≡ Some hop
   pub other : next ≢ Some hop
 
--- Parts lead from node u on as far as part k: those before it are joined end to end over rising epochs, and each is a front
--- of the walk to d that the table of its own epoch prescribes.
+-- Parts lead from node u on as far as part k. Those before it are joined end to end over rising epochs, and each is a
+-- front of the walk to d that the table of its own epoch prescribes.
 pub record IsReachedByParts (plans : List Plan) (d u : ℕ) (parts : List Segment) (k : ℕ) (part : Segment) : Type 0 where
   pub before : AreJoined plans d u 0 (take k parts)
   pub part_is : slice_get parts k ≡ Some part
@@ -84,7 +84,7 @@ DepartureIsDetermined = (topology : Topology) (installs : List Install) (plans :
 
 -- ---- what the parts of the program say
 
--- where one part, at place k, leaves its walk, of a packet that stands at node u and whose epoch so far is this one
+-- where one part, at place k, leaves its walk, of a packet that is at node u and whose epoch so far is this one
 abbrev pub LeavesIn : List Plan → ℕ → ℕ → Segment → ℕ → ℕ → Option Departure → Type 0
 LeavesIn plans d k part u above None =
     (above < part.epoch) × (slice_get part.hops 0 ≡ Some u) × IsFrontOfWalk (plan_at plans part.epoch) d part.hops

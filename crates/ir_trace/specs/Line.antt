@@ -10,11 +10,11 @@ use Rattle.ir_trace.specs.Row.{TraceRow}
 use Rattle.ir_trace.specs.Reading.{IsReadAs}
 use Rattle.ir_trace.specs.Spelled.{IsNoRowOf}
 
--- no line feed stands in the bytes
+-- no line feed is in the bytes
 abbrev pub HasNoFeed : List ℕ → Type 0
 HasNoFeed bytes = list_all (λ b. not (b == 10)) bytes ≡ true
 
--- the text is a line, its line feed, and what stands behind
+-- the text is a line, its line feed, and what follows
 pub record CutsLine (text line after : List ℕ) : Type 0 where
   pub whole : text ≡ line ++ 10 ∷ after
   pub inside : HasNoFeed line

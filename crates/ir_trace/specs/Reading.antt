@@ -18,7 +18,7 @@ abbrev pub AreLinkedAs : Adjacency → Name → Name → ℕ → ℕ → Type 0
 AreLinkedAs g x y u v =
     (node_named (names g) x ≡ Some u) × (node_named (names g) y ≡ Some v) × (u ≢ v) × (has_edge g x y ≡ true)
 
--- the ends of a link that is down stand with the smaller node number first
+-- the ends of a link that is down come with the smaller node number first
 abbrev pub FateIsReadAs : Adjacency → FateText → RowFate → Type 0
 FateIsReadAs g Delivered fate = fate ≡ read.Delivered
 FateIsReadAs g Retired fate = fate ≡ read.Retired
@@ -43,7 +43,7 @@ pub record IsReadAs (g : Adjacency) (text : RowText) (row : TraceRow) : Type 0 w
   pub fate : FateIsReadAs g text.fate row.fate
   pub parts : PartsAreReadAs g text.parts row.parts
 
--- rows that may stand in a trace of a version, and what each is read as
+-- rows that may be in a trace of a version, and what each is read as
 abbrev pub AreReadAs : Version → Adjacency → List RowText → List TraceRow → Type 0
 AreReadAs v g [] [] = Unit {0}
 AreReadAs v g [] (row ∷ rows) = ⊥
@@ -58,11 +58,11 @@ IsTraceIn v g text rows = (texts : List RowText) × (text ≡ trace_text v texts
 abbrev pub IsTrace : Adjacency → List ℕ → List TraceRow → Type 0
 IsTrace g text rows = (v : Version) × IsTraceIn v g text rows
 
--- no row's line stands at the front
+-- no row's line is at the front
 abbrev pub IsBadRow : Version → List ℕ → Type 0
 IsBadRow v rest = (text : RowText) → IsRowText v text → (more : List ℕ) → rest ≡ row_line v text ++ more → ⊥
 
--- a row's line stands at the front, and some name in it is not that of a node, or two are not those of a link
+-- a row's line is at the front, and some name in it is not that of a node, or two are not those of a link
 abbrev pub IsUnknown : Version → Adjacency → List ℕ → Type 0
 IsUnknown v g rest =
     (text : RowText) × (more : List ℕ) × IsRowText v text × (rest ≡ row_line v text ++ more) × ((row : TraceRow) → IsReadAs g text row → ⊥)

@@ -7,7 +7,7 @@ pub record Segment : Type 0 where
   pub epoch : ℕ
   pub hops : List ℕ
 
--- a row: its nodes are places in node order, and its parts stand in the order of the way
+-- a row: its nodes are places in node order, and its parts are in the order of the way
 pub record TraceRow : Type 0 where
   pub id : ℕ
   pub source : ℕ

@@ -8,8 +8,8 @@ use Rattle.ir_trace.specs.Checked.{ArePlansOf, AreFine, ArrivesShortest, Arrives
 use Rattle.ir_trace.specs.SoundRows.{IsSoundRow}
 
 -- There is no finding in the rows. So each part of each row is a sound record of one epoch, in the words of the packet
--- core, and a packet that was delivered in a shortest-path epoch went over its distance there, in one of landmarks over
--- no more than the stretch allows.
+-- core. A packet that was delivered in a shortest-path epoch went over its distance there, in one of landmarks over no
+-- more than the stretch allows.
 pub record IsSoundTrace (topology : Topology) (installs : List Install) (rows : List TraceRow) : Type 0 where
   pub plans : List Plan
   pub of_installs : ArePlansOf topology installs plans

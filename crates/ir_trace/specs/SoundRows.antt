@@ -21,7 +21,7 @@ abbrev pub segment_of : ℕ → ℕ → ℕ → List ℕ → Fate → Record
 segment_of id dest epoch hops f =
     record { id = id; epoch = epoch; source = first_of hops; dest = dest; hops = hops; restamps = []; fate = f; room = length hops }
 
--- the ends of a link that was down stand with the smaller first, as in each row that is read
+-- the ends of a link that was down come with the smaller first, as in each row that is read
 abbrev pub IsOrdered : RowFate → Type 0
 IsOrdered Delivered = Unit {0}
 IsOrdered Retired = Unit {0}

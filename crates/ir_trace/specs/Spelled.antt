@@ -30,7 +30,7 @@ fate_held held.Left = Left
 abbrev pub part_held : SegmentSpelling → PartText
 part_held s = record { epoch = s.epoch; hops = texts s.hops.now }
 
--- what stands before the parts, and parts
+-- what is before the parts, and parts
 abbrev pub row_told : Head → List PartText → RowText
 row_told h parts = record { id = h.id; source = h.source.now; dest = h.dest.now; weight = h.weight; fate = fate_held h.fate; parts = parts }
 
@@ -90,7 +90,7 @@ AreNoParts words = (parts : List PartText) → AreParts words parts → ⊥
 abbrev pub IsNoNumber : Name → Type 0
 IsNoNumber word = (n : ℕ) → n ≤ MAX_NUMBER → decimal n ≡ word → ⊥
 
--- a plus stands first, or a zero with another byte behind it
+-- a plus is first, or a zero with another byte after it
 abbrev pub has_needless_front : Name → Bool
 has_needless_front word = slice_index word 0 == 43 || slice_index word 0 == 48 && nat_lt 1 (length word)
 

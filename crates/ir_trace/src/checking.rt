@@ -102,7 +102,7 @@ pub fn check_trace_by(
 }
 
 /// What `check_trace_by` finds, by the plans of the epochs in place of their installs. The plan of
-/// epoch e stands at place e - 1.
+/// epoch e is at place e - 1.
 /// Condition: the trace was read over the topology's graph, and the plans are over its nodes. Takes
 /// O(log k + d) for each hop and O(log r) for each of r rows, for at most k starts and d ports of a
 /// node.

@@ -23,7 +23,7 @@ pub enum Departure {
     Epoch {
         segment: usize,
     },
-    /// This segment begins at another node than this one, where the packet stood.
+    /// This segment begins at another node than this one, where the packet was.
     Start {
         segment: usize,
         at: u16,
@@ -61,7 +61,7 @@ fn first_stray(plan: &Plan, hops: &[u16], dest: u16) -> Option<(usize, Option<u1
     None
 }
 
-/// Where the segment at a place leaves the walk of its epoch, of a packet that stands at a node and whose epoch so far
+/// Where the segment at a place leaves the walk of its epoch, of a packet that is at a node and whose epoch so far
 /// is `above`.
 fn left_in(
     plans: &[Plan],
@@ -123,7 +123,7 @@ fn left_by_fate(plans: &[Plan], last: &Segment, fate: RowFate, dest: u16) -> Opt
 }
 
 /// Where a row leaves the walks of its epochs first, by the plans of the epochs; none where it follows
-/// them, or where an epoch of it has no plan. The plan of epoch e stands at place e - 1.
+/// them, or where an epoch of it has no plan. The plan of epoch e is at place e - 1.
 /// Condition: the row and the plans are over the nodes of one network.
 pub fn first_departure(plans: &[Plan], row: &TraceRow) -> Option<Departure>
     requires { AreOverRow plans.now row.now }
@@ -140,7 +140,7 @@ pub fn first_departure(plans: &[Plan], row: &TraceRow) -> Option<Departure>
 }
 
 /// Where a row leaves the walks of its epochs first; none where it follows them, or where an epoch of it is not one of
-/// the installs. The install of epoch e stands at place e - 1. The rows of the epochs' plans are made by a crew.
+/// the installs. The install of epoch e is at place e - 1. The rows of the epochs' plans are made by a crew.
 /// Condition: the row was read over the topology's graph; each install has a mark for each link, a root that is a
 /// node, and joins all nodes. Refused for memory alone.
 pub fn departure_by(

@@ -3,7 +3,7 @@ ghost use Rattle.ir_trace.specs.Judged.{PlansRouteAlike, SoundFindsNothing, Find
 ghost use Rattle.ir_trace.specs.Leaving.{DepartureIsDetermined};
 
 /// Any two lists of plans that installs may have route alike, whatever the kinds and the orders of
-/// labels: the two plans of an epoch have the same labels, the same port at each node for each
+/// labels. The two plans of an epoch have the same labels, the same port at each node for each
 /// destination, and the same rows.
 pub fn plans_of_installs_route_alike()
     ensures { PlansRouteAlike }

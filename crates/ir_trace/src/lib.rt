@@ -1,11 +1,10 @@
 //! Traces: a line for each packet of a run, written, read and checked against what each epoch was
 //! installed with; and where a row leaves the walks of its epochs.
 //!
-//! The first line is `trace 1` or `trace 2`. In `trace 1` each further line is one packet, as
-//! `ID EPOCH SOURCE DEST WEIGHT FATE HOPS`; in `trace 2` it is `ID SOURCE DEST WEIGHT FATE`, and then
-//! `#EPOCH HOPS` for each segment of the packet's way. Words have single spaces between, numbers are in
-//! decimal without leading zeros. FATE is `delivered`, `retired`, `down X Y`, `full X Y` or `left`. Each
-//! line ends with a line feed.
+//! The first line is `trace 1` or `trace 2`. In `trace 1` each further line is one packet, as `ID EPOCH SOURCE DEST
+//! WEIGHT FATE HOPS`. In `trace 2` it is `ID SOURCE DEST WEIGHT FATE`, and then `#EPOCH HOPS` for each segment of the
+//! packet's way. Words have single spaces between, numbers are in decimal without leading zeros. FATE is `delivered`,
+//! `retired`, `down X Y`, `full X Y` or `left`. Each line ends with a line feed.
 #![tactic(auto)]
 
 mod checking;

@@ -50,7 +50,7 @@ impl Trace {
     }
 }
 
-/// The line at the front, and what stands behind its line feed. There is none where no line feed stands.
+/// The line at the front, and what follows its line feed. There is none where there is no line feed.
 fn cut_line(text: &[u8]) -> Option<(&[u8], &[u8])>
     ensures { MatchOption result (HasNoFeed text.now) (λ p. CutsLine text.now p.0.now p.1.now) }
 {
@@ -85,7 +85,7 @@ fn read_row(
     }
 }
 
-/// The version that the first line of a text names, and what stands behind that line.
+/// The version that the first line of a text names, and what follows that line.
 fn version_of(text: &[u8]) -> Option<(Version, &[u8])>
     ensures { MatchOption result (IsNoTrace text.now) (λ p. text.now ≡ header p.0 ++ p.1.now) }
 {
@@ -124,7 +124,7 @@ fn read_rows(alloc: Global, text: &[u8], graph: &Graph) -> Result<Trace, Finding
 }
 
 /// The trace of either version that a text is over a graph, or its first fault: `NotTrace` in line 1;
-/// in a later line `BadRow`, or else `UnknownNode`; or `NoMemory`. Rows may stand in any order, and an
+/// in a later line `BadRow`, or else `UnknownNode`; or `NoMemory`. Rows may be in any order, and an
 /// id may be any number that a row may hold. The trace of records that can be written is read again as
 /// their rows. Takes O(b) on average, for a text of b bytes.
 pub fn read_trace(alloc: Global, text: &[u8], graph: &Graph) -> Result<Trace, Finding>

@@ -6,9 +6,9 @@ use std::marker::Model;
 /// The version of a trace, by its first line.
 #[derive(Clone, Copy, Debug, PartialEq, Eq)]
 pub enum Version {
-    /// `trace 1`: a row has one segment, whose epoch stands behind the id.
+    /// `trace 1`: a row has one segment, whose epoch follows the id.
     One,
-    /// `trace 2`: a row has one segment or more, each behind its `#EPOCH`.
+    /// `trace 2`: a row has one segment or more, each after its `#EPOCH`.
     Two,
 }
 
@@ -17,7 +17,7 @@ pub enum Version {
 pub enum RowFate {
     Delivered,
     Retired,
-    /// The link between these nodes was down; the smaller number stands first.
+    /// The link between these nodes was down; the smaller number is first.
     Down { low: u16, high: u16 },
     /// The channel from the first node to the second was full.
     Full { from: u16, to: u16 },

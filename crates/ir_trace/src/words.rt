@@ -20,7 +20,7 @@ pub enum FateSpelling<'a> {
     Left,
 }
 
-/// What stands in a row before its segments, with its names.
+/// What is in a row before its segments, with its names.
 #[derive(Clone, Copy)]
 pub struct Head<'a> {
     pub id: u32,
@@ -44,7 +44,7 @@ pub struct Spelling<'a> {
     pub segments: Vec<SegmentSpelling<'a>>,
 }
 
-/// Whether a plus stands first, or a zero with another byte behind it.
+/// Whether a plus is first, or a zero with another byte after it.
 fn has_needless_front(bytes: &[u8]) -> bool
     ensures { result ≡ has_needless_front bytes.now }
 {
@@ -84,7 +84,7 @@ fn all_words(words: &[&str]) -> bool
     words.iter().all(|word| is_word(word))
 }
 
-/// What stands between the spaces.
+/// What is between the spaces.
 fn split_spaces(alloc: Global, text: &str) -> Result<Vec<&str>, AllocError>
     ensures { IfOk result (λ words. texts words.items ≡ slice_split (λ b. b == 32) text.now) }
 {
@@ -106,7 +106,7 @@ pub fn line_words(alloc: Global, line: &[u8]) -> Result<Option<Vec<&str>>, Alloc
     Ok(Some(words))
 }
 
-/// The fate that a word names, with the names behind it, and the words behind those.
+/// The fate that a word names, with the names after it, and the words after those.
 fn spelled_fate<'a>(word: &str, rest: &'a [&'a str]) -> Option<(FateSpelling<'a>, &'a [&'a str])>
     ensures { MatchOption result (IsNoFate (word.now ∷ texts rest.now))
         (λ p. fate_words (fate_held p.0) ++ texts p.1.now ≡ word.now ∷ texts rest.now) }
@@ -131,7 +131,7 @@ fn spelled_fate<'a>(word: &str, rest: &'a [&'a str]) -> Option<(FateSpelling<'a>
     }
 }
 
-/// The row that the words of a line of the first version spell. Behind the id stands a head as one of the second version
+/// The row that the words of a line of the first version spell. After the id comes a head as one of the second version
 /// begins, with the epoch in the place of its id.
 fn spelled_one<'a>(words: &'a [&'a str]) -> Option<(Head<'a>, SegmentSpelling<'a>)>
     requires { list_all is_word (texts words.now) ≡ true }
@@ -196,7 +196,7 @@ fn marked_epoch(word: &str) -> Option<u32>
     number(word.strip_prefix("#")?)
 }
 
-/// How many words stand before the first that begins with `#`.
+/// How many words are before the first that begins with `#`.
 fn hop_count(words: &[&str]) -> usize
     ensures count { result ≡ prefix_len (λ w. not (is_mark w)) (texts words.now) }
     ensures within { result ≤ length words.now }

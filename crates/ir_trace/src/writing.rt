@@ -37,7 +37,7 @@ fn channel_start(topology: &Topology, link: u16, to: u16) -> u16
     if low == to { high } else { low }
 }
 
-/// Writes a word and the names of two nodes, each behind a space.
+/// Writes a word and the names of two nodes, each after a space.
 fn push_pair(text: &mut String, graph: &Graph, word: &str, u: u16, v: u16) -> Result<(), AllocError>
     requires first { u < length graph.now }
     requires second { v < length graph.now }
@@ -49,7 +49,7 @@ fn push_pair(text: &mut String, graph: &Graph, word: &str, u: u16, v: u16) -> Re
     push_name(text, graph, v)
 }
 
-/// Writes the words of a fate, each behind a space.
+/// Writes the words of a fate, each after a space.
 fn push_fate(
     text: &mut String,
     graph: &Graph,
@@ -76,7 +76,7 @@ fn push_fate(
     }
 }
 
-/// Writes the ends, the weight and the fate of a record, each word behind a space.
+/// Writes the ends, the weight and the fate of a record, each word after a space.
 fn push_way(
     text: &mut String,
     graph: &Graph,
@@ -116,7 +116,7 @@ fn push_row(
     text.push_str("\n")
 }
 
-/// Writes `#EPOCH` and the names of hops, each behind a space.
+/// Writes `#EPOCH` and the names of hops, each after a space.
 fn push_segment(
     text: &mut String,
     graph: &Graph,
@@ -176,12 +176,11 @@ fn push_segments_row(
     text.push_str("\n")
 }
 
-/// The trace of records over the topology of their graph: the line `trace 1`, and a row for each record
-/// in order, with its first epoch and all of its hops, restamped or not. Only want of memory is refused.
-/// Condition: the topology is that of the graph; the nodes and links of each record are among its nodes
-/// and links; the hops are 1 to `ir_model::MAX_NODES` nodes, each linked to the next; the node of a
-/// `Full` is an end of its link. Takes O(r + h d), for r records of h hops in all and at most d ports of
-/// a node.
+/// The trace of records over the topology of their graph: the line `trace 1`, and a row for each record in order, with
+/// its first epoch and all of its hops, restamped or not. Only want of memory is refused. Condition: the topology is
+/// that of the graph, and the nodes and links of each record are among its nodes and links. The hops are 1 to
+/// `ir_model::MAX_NODES` nodes, each linked to the next; the node of a `Full` is an end of its link. Takes O(r + h d),
+/// for r records of h hops in all and at most d ports of a node.
 pub fn trace_text(
     alloc: Global,
     graph: &Graph,

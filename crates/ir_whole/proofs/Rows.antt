@@ -31,7 +31,7 @@ module _ (run : GivenRun) (rows : List TraceRow) (place : ℕ) (row : TraceRow) 
   told NeverFull h = first_found NeverFull h
   told NoMemory h = absurd h
 
-  -- what is told of the row
+  -- what is reported of the row
   told_as : (kind : WholeKind) → IsWholeFinding run rows (take place rows) row kind → (line : ℕ) (said : WholeKind) → ((line ≡ place + 2) × (said ≡ kind)) ⊎ ((line ≡ 0) × (said ≡ NoMemory)) → FindsWhole run rows line said
   told_as kind h line said (inl p) = subst (λ (n : ℕ). FindsWhole run rows n said) (sym p.0) (subst (FindsWhole run rows (place + 2)) (sym p.1) (told kind h))
   told_as kind h line said (inr p) = subst (FindsWhole run rows line) (sym p.1) p.0
@@ -41,7 +41,7 @@ module _ (run : GivenRun) (rows : List TraceRow) (place : ℕ) (row : TraceRow) 
   told_number le line said e = told_as NeverInjected (λ are. not_numbered HasEnds run.packets (inject_lines run.steps) (take place rows) row le are) line said e
 
   module _ (used : ℕ) (lt : row.id < run.packets) where
-    -- what one more row wants stands in the table too
+    -- what one more row wants is in the table too
     table_next : (want : TraceRow → Wanted) (table : List (Option Wanted)) → IsTable want run.packets (take place rows) used table
         → IsTable want run.packets (take (place + 1) rows) (max used (row.id + 1)) (set table row.id (Some (want row)))
     table_next want table is =

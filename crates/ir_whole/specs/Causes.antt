@@ -31,8 +31,8 @@ has_step from to (u ∷ v ∷ hops) = ((u == from) && (v == to)) || has_step fro
 abbrev pub have_step : ℕ → ℕ → List Segment → Bool
 have_step from to parts = list_any (λ part. has_step from to part.hops) parts
 
--- A packet of this fate may have been sent on from its last hop to a node that is no hop of it: there it was found retired,
--- or the link by which it came was down, or it was left on its way.
+-- A packet of this fate may have been sent on from its last hop to a node that is no hop of it. There it was found
+-- retired, or the link by which it came was down, or it was left on its way.
 abbrev pub may_go_on : ℕ → ℕ → RowFate → Bool
 may_go_on from to Delivered = false
 may_go_on from to Retired = true

@@ -90,6 +90,6 @@ balanced_settled inbox ins inbox' ins' outs outs' outcomes outcomes' ok p k took
 pub same_account : (inbox inbox' : In) (ins ins' : List In) (outs : List Out) (outcomes outcomes' : List Outcome) → IsBalanced inbox ins outs outcomes → inbox' ≡ inbox → ins' ≡ ins → outcomes' ≡ outcomes → IsBalanced inbox' ins' outs outcomes'
 same_account inbox inbox' ins ins' outs outcomes outcomes' ok a b c h = same_even (head_weighs h) inbox inbox' ins ins' outs outcomes outcomes' (ok h) a b c
 
--- an outcome behind the earlier ones
+-- an outcome after the earlier ones
 pub settled_behind : (outcomes reserved after : List Outcome) (o : Outcome) → after ≡ reserved ++ o ∷ [] → reserved ≡ outcomes → after ≡ outcomes ++ o ∷ []
 settled_behind outcomes reserved after o e f = e ∙ ap (λ (xs : List Outcome). xs ++ o ∷ []) f

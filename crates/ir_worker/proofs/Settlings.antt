@@ -40,7 +40,7 @@ module _ (was_full was_empty : Word Parcel) (looked : Look Parcel) where
     made_later = (m, h.made_later, step);
   }
 
-  -- the packet of the outcome has the number that the turn tells
+  -- the packet of the outcome has the number that the turn says
   number : (m b : Node) (id : ℕ) (step : IsTurn was_full was_empty looked m b (Settled id)) → id ≡ step.does.outcome.packet.id
   number m b id step =
       let s = step.does in

@@ -17,7 +17,7 @@ use Rattle.ir_worker.specs.declared.parcel.Outcome.{Outcome}
 use Rattle.ir_worker.specs.Seen.{Parcel, stamp_now}
 
 -- The core's verdict on a parcel that the node u took by this way, by a board and the plan that the stamp of its present
--- segment knows. `full` tells whether the channel that it is to leave by is full.
+-- segment knows. `full` says whether the channel that it is to leave by is full.
 abbrev pub parcel_verdict : Parcel → Board → Bool → Way → ℕ → Verdict
 parcel_verdict p b full way u = judged (knows (stamp_now p)) b (λ _. full) way u (stamp_of p.packet) p.packet.dest
 

@@ -4,7 +4,7 @@ use Rattle.ir_model.specs.declared.Hop.{Hop}
 use Rattle.ir_core.specs.declared.event.Way.{Way}
 use Rattle.ir_core.specs.declared.event.Way.TheVariants.{Inbox, Link}
 
--- A parcel with this last hop, which goes to `next`, came to the node u by this way: it waited in the inbox of u, or it
+-- A parcel with this last hop, which goes to `next`, came to the node u by this way. It waited in the inbox of u, or it
 -- came from the node of a port of u, by that port's link.
 abbrev pub CameBy : List Hop → ℕ → Way → ℕ → ℕ → Type 0
 CameBy ports u Inbox last next = (last ≡ u) × (next ≡ u)

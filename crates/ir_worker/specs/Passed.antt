@@ -15,8 +15,8 @@ use Rattle.ir_worker.specs.Acts.{GoesOnAs, SettlesAs}
 use Rattle.ir_worker.specs.Ends.{CameBy}
 use Rattle.ir_worker.specs.Wires.{Out, SentOver, WasFullFor}
 
--- The node u of the net of the opening's stamp, which allows so many restamps, holds a parcel that it took by this way: the
--- parcel is of the net, with its room and its limit, and came by that way to a node with these ports.
+-- The node u of the net of the opening's stamp, which allows so many restamps, holds a parcel that it took by this way.
+-- The parcel is of the net, with its room and its limit, and came by that way to a node with these ports.
 pub record IsInHandAt (opening : Stamp) (restamps : ℕ) (ports : List Hop) (u : ℕ) (way : Way) (p : Parcel) : Type 0 where
   pub of_net : All (λ s. IsOfNet opening s) (stamps_of p.first p.later)
   pub few : length p.packet.restamps ≤ restamps

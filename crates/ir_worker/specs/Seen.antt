@@ -51,7 +51,7 @@ pub record IsStretchBy (s : Stamp) (g : Record) : Type 0 where
   pub begins : slice_get g.hops 0 ≡ Some g.source
   pub follows : IsBeginning (knows s) g.dest g.hops
 
--- The segments of a record are such, one for each stamp; their epochs rise, and each restamp stands at a place of its
+-- The segments of a record are such, one for each stamp; their epochs rise, and each restamp is at a place of its
 -- own.
 pub record IsRoutedBy (stamps : List Stamp) (r : Record) : Type 0 where
   pub few : length r.restamps ≤ MAX_RESTAMPS
@@ -63,8 +63,8 @@ pub record IsRoutedBy (stamps : List Stamp) (r : Record) : Type 0 where
 abbrev pub IsSoundByStamp : Stamp → Record → Type 0
 IsSoundByStamp s g = (g.epoch ≡ s.epoch) × IsSound (knows s) g
 
--- A record is sound by its stamps: each segment is, the segments joined end to end are its hops, each begins where the
--- one before it ended, their epochs rise, and each restamp stands at a place of its own.
+-- A record is sound by its stamps: each segment is. The segments joined end to end are its hops, each begins where the
+-- one before it ended, their epochs rise, and each restamp is at a place of its own.
 pub record IsSoundByStamps (stamps : List Stamp) (r : Record) : Type 0 where
   pub few : length r.restamps ≤ MAX_RESTAMPS
   pub places : ArePlaces (length r.hops) (reverse r.restamps)
@@ -109,9 +109,9 @@ IsOfNet opening s = (registry_name s ≡ registry_name opening) × IsOver (knows
 abbrev pub HasRoomOf : Stamp → ℕ → Parcel → Type 0
 HasRoomOf opening restamps p = p.packet.room ≡ hop_room restamps (node_count (knows opening).topology)
 
--- A parcel goes to a place of its net if its last hop is the place's first node and the node that it goes to the
--- second, all its stamps are of the net, its record has the room of the net, and it has had no more restamps than the net
--- allows, and none in an inbox.
+-- A parcel goes to a place of its net if its last hop is the place's first node, the node that it goes to is the
+-- second, and all its stamps are of the net. Its record then has the room of the net; it has had no more restamps than
+-- the net allows, and none in an inbox.
 pub record GoesTo (p : Parcel) (place : Place) : Type 0 where
   pub last : last_of p.packet.hops ≡ place.from
   pub next : p.next ≡ place.to

@@ -50,15 +50,15 @@ in_hand a b p way current = with_restamp (restamp_in a b p way) current way a.in
 abbrev pub way_in : Node → Node → Parcel → Way → Way
 way_in a b p way = way_then (restamp_in a b p way) way
 
--- In the word for a look at a board: the node looked at its board with this parcel in hand, so after
--- it took the parcel, and knew from then on what it knows after the turn.
+-- In the word for a look at a board: the node looked at its board with this parcel in hand, so
+-- after it took the parcel. From then on it knew what it knows after the turn.
 abbrev pub LooksWith : Look Parcel → Node → Node → Parcel → Type 0
 LooksWith looked a b p = looked p (reader_board a.reader) (known a.reader) (known b.reader)
 
 -- The node looked at its board with the parcel that it had taken in hand. The parcel was restamped,
--- where that is due, with the stamp that is current on the board that was read, and sent on by the
--- core's verdict by that board: to this node, and over no other port. Its present segment is of no
--- epoch that the node knew to be retired before.
+-- where that is due, with the stamp that is current on the board that was read. It was sent on by
+-- the core's verdict by that board: to this node, and over no other port. Its present segment is of
+-- no epoch that the node knew to be retired before.
 pub record Sends (looked : Look Parcel) (a b : Node) (id to : ℕ) : Type 0 where
   pub parcel : Parcel
   pub way : Way
@@ -83,17 +83,17 @@ pub record IsUntouched (a b : Node) : Type 0 where
   pub holds : HoldsAll a b
 
 -- In the words for a flag that was set and for a turn that a gate did not allow: the node of this
--- number may end after so many turns, since the flag was set, the gate did not let it make the next
--- turn, or that turn's number would be u64's greatest.
+-- number may end after so many turns. The reason is that the flag was set, the gate did not let it
+-- make the next turn, or that turn's number would be u64's greatest.
 abbrev pub MayEnd : {F G : Type 0} → (F → Type 0) → (G → ℕ → ℕ → Type 0) → F → G → ℕ → ℕ → Type 0
 MayEnd {F} {G} was_set barred stop gate node turns = was_set stop ⊎ (barred gate node turns ⊎ (turns + 1 ≡ 2 ^ 64))
 
 -- In the words for a refused push, a refused pop and a look at a board.
 module _ (was_full was_empty : Word Parcel) (looked : Look Parcel) where
-  -- The node looked at its board with the parcel that it had taken in hand. The parcel was
-  -- restamped, where that is due, and settled by the core's verdict by the board that was read, whose
-  -- version the outcome holds, and on which the cause that it names held; the earlier outcomes stay.
-  -- If it was delivered, its present segment is of no epoch that the node knew to be retired before.
+  -- The node looked at its board with the parcel that it had taken in hand. The parcel was restamped, where that is
+  -- due, and settled by the core's verdict by the board that was read. The outcome holds that board's version, and the
+  -- cause that it names held on that board; the earlier outcomes stay. If it was delivered, its present segment is of
+  -- no epoch that the node knew to be retired before.
   pub record Settles (a b : Node) (id : ℕ) : Type 0 where
     pub parcel : Parcel
     pub way : Way
@@ -113,7 +113,7 @@ module _ (was_full was_empty : Word Parcel) (looked : Look Parcel) where
     pub cause : CauseHolds (board_in b) outcome.packet outcome.packet.fate
     pub live : verdict ≡ Arrives → (board_in a).floor ≤ stamp_of outcome.packet
 
-  -- Idle is told only where the pop of the way whose turn it was is refused.
+  -- Idle is reported only where the pop of the way whose turn it was is refused.
   abbrev pub Does : Node → Node → Turn → Type 0
   Does a b Idle = HoldsAll a b × WasEmptyAt was_empty a.entrances.inbox a.entrances.ports.items a.entrances.next
   Does a b (Sent id to) = Sends looked a b id to
@@ -133,12 +133,12 @@ module _ (was_full was_empty : Word Parcel) (looked : Look Parcel) where
   AreTurns a [] b = a ≡ b
   AreTurns a (turn ∷ turns) b = (m : Node) × AreTurns a turns m × IsTurn m b turn
 
-  -- The node a made a list of turns, is b, and might end behind so many. Where a growth was refused, it made them, and b is as it then was.
+  -- The node a made a list of turns, is b, and might end after so many. Where a growth was refused, it made them, and b is as it then was.
   abbrev pub HasServed : (ℕ → ℕ → Type 0) → Node → Node → Option NoMemory → Type 0
   HasServed may_end a b short =
       (turns : List Turn) × MatchOption short (AreTurns a turns b × may_end a.index (length turns)) (λ _. (m : Node) × AreTurns a turns m × IsUntouched m b)
 
-  -- From a to b the node made turns, then one that settled the packet of this record, as the record tells it, and then others.
+  -- From a to b the node made turns, then one that settled the packet of this record, as the record says it, and then others.
   pub record HasSettled (a b : Node) (r : Record) : Type 0 where
     pub earlier : List Turn
     pub before : Node
@@ -149,8 +149,9 @@ module _ (was_full was_empty : Word Parcel) (looked : Look Parcel) where
     pub later : List Turn
     pub made_later : AreTurns after later b
 
-  -- From a to b the node settled the packet of this record, and the cause that its fate names held: on the board that the node read
-  -- in that turn, which is the board of a beginning of these entries; or, where the fate is Full, the push of that turn was refused.
+  -- From a to b the node settled the packet of this record, and the cause that its fate names held. It held on the
+  -- board that the node read in that turn, which is the board of a beginning of these entries. Where the fate is Full,
+  -- the push of that turn was refused.
   pub record HadCause (entries : List Entry) (a b : Node) (r : Record) : Type 0 where
     pub settled : HasSettled a b r
     pub read : IsPrefix (known settled.after.reader) entries

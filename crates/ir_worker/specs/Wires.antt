@@ -73,8 +73,8 @@ abbrev pub WasEmptyAt : Word Parcel → In → List In → ℕ → Type 0
 WasEmptyAt was_empty inbox ins zero = FoundNone was_empty GoesTo inbox
 WasEmptyAt was_empty inbox ins (suc j) = (t : In) × (slice_get ins j ≡ Some t) × FoundNone was_empty GoesTo t
 
--- The ends of the node u of the net of an opening's stamp, which allows so many restamps: for each of its ports, in order, one that takes what comes
--- from the neighbour and one that sends to it, and one that takes from its inbox.
+-- The ends of the node u of the net of an opening's stamp, which allows so many restamps. For each of its ports, in
+-- order, there is one that takes what comes from the neighbour and one that sends to it; one takes from its inbox.
 pub record AreEndsOf (opening : Stamp) (restamps u : ℕ) (ports : List Hop) (inbox : In) (ins : List In) (outs : List Out) : Type 0 where
   pub node_in : u < node_count (knows opening).topology
   pub few : node_count (knows opening).topology ≤ MAX_NODES

@@ -1,7 +1,7 @@
 //! Nodes that sleep while nothing comes to them, and are rung awake. Nothing is claimed of it.
 //!
 //! No ring is lost: who is about to sleep says so first, and then looks once more at all that it
-//! would be rung for; who rings has put that there first, and looks then whether somebody sleeps.
+//! would be rung for. Who rings has put that there first, and then looks whether somebody sleeps.
 
 use crate::node::Turn;
 use std::alloc::{AllocError, Global};
@@ -141,7 +141,7 @@ impl Bells {
         self.waiting.ring();
     }
 
-    // What a node of so many ways does behind a turn: it rings for what it did, or rests where it found nothing.
+    // What a node of so many ways does after a turn: it rings for what it did, or rests where it found nothing.
     pub(crate) fn after<R: Wait>(
         &self,
         rt: &R,
@@ -169,7 +169,7 @@ impl Bells {
         Idle::new()
     }
 
-    // Rests behind another look at all ways, and answers how many were in vain.
+    // Rests after another look at all ways, and answers how many were in vain.
     fn rest<R: Wait>(&self, rt: &R, node: u16, looks: u8) -> u8 {
         let Some(bell) = self.nodes.get(usize::from(node)) else {
             thread::yield_now();

@@ -9,7 +9,7 @@ use ir_epochs::Looks;
 use ir_links::Moments;
 
 /// Turns until the flag is set, the gate does not let the node pass, or the turn's number is u64's
-/// greatest. Where there is no memory for a turn it sets the flag and ends, and tells so. A node
+/// greatest. Where there is no memory for a turn it sets the flag and ends, and says so. A node
 /// that finds nothing gives way, and does not sleep. For users of the library.
 ///
 /// What comes back is the node that was given, after a list of turns.

@@ -24,14 +24,14 @@ pub enum Turn {
     Idle,
     /// The packet of this id went on to this node.
     Sent(u32, u16),
-    /// The packet of this id was delivered or dropped, which its outcome tells.
+    /// The packet of this id was delivered or dropped, which its outcome says.
     Settled(u32),
 }
 
 /// A node of a net. It owns the ends that take from its inbox and from each port, and those that
 /// send over each port. The heads of the parcels that it took are those that it sent and settled,
-/// each as often, and the restamps that it made are of epochs that were current on the board that
-/// it reads. The causes of the drops that it keeps held on boards that it has read.
+/// each as often. The restamps that it made are of epochs that were current on the board that it
+/// reads. The causes of the drops that it keeps held on boards that it has read.
 #[derive(Drop)]
 pub struct Node {
     index: u16,
@@ -182,7 +182,7 @@ impl Node {
 
     /// One turn: it makes room for one outcome, and then polls the way whose turn it is. A parcel that was there is
     /// restamped, where its epoch is retired and the net still allows it, and sent on or settled, by the board that is
-    /// then read: the look is made with the parcel in hand.
+    /// then read. The look is made with the parcel in hand.
     ///
     /// Where there is no memory for the outcome nothing is polled.
     pub fn turn<R: Moments<Parcel> + Looks<Parcel>>(&mut self, rt: &R) -> Result<Turn, NoMemory>

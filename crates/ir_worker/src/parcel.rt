@@ -301,7 +301,7 @@ impl Parcel {
     }
 }
 
-// What a packet came to that stands in this body, by the board of this version.
+// What a packet came to that is in this body, by the board of this version.
 fn outcome_of(body: Body, version: u32) -> Outcome
     requires epoch { body.packet.epoch ≡ body.first.epoch }
     requires sound { ∥ IsSoundByStamps (stamps_of body.first body.later.items) body.packet ∥₁ }

@@ -78,7 +78,7 @@ fn inject<R: Wait>(
     }
 }
 
-/// An install; again, where there was no memory and the board stands as it was.
+/// An install; again, where there was no memory and the board is as it was.
 fn install<R: Threads + Wait + Sync>(
     rt: &R,
     controller: &mut Controller<&R>,

@@ -60,7 +60,7 @@ fn refusal(world: &mut World, event: Event) -> Option<Refused> {
     world.apply(event).err()
 }
 
-/// An event, refused for this cause alone; again, where there was no memory and the world stands as it was.
+/// An event, refused for this cause alone; again, where there was no memory and the world is as it was.
 fn step(world: &mut World, event: Event, wanted: Option<Refused>) -> Result<(), &'static str> {
     let before = look_at(world);
     let first = refusal(world, event);
@@ -118,15 +118,15 @@ fn play(world: &mut World, moves: &[(Move, Option<Refused>)]) -> Result<(), &'st
     Ok(())
 }
 
-/// Events by rounds, each with a drain behind it, and what is then seen of a world whose channels have this capacity.
+/// Events by rounds, each with a drain after it, and what is then seen of a world whose channels have this capacity.
 pub struct Run {
     capacity: usize,
     rounds: &'static [&'static [(Move, Option<Refused>)]],
     seen: Sight,
 }
 
-/// Packets over three epochs, one of them after a link was down and up again; a full inbox, which refuses a packet and
-/// takes it when it is empty again; and a full channel, which drops one.
+/// Packets over three epochs, one of them after a link was down and up again. A full inbox, which refuses a packet and
+/// takes it when it is empty again, and a full channel, which drops one.
 pub static RUNS: [Run; 3] = [
     Run {
         capacity: 2,

@@ -33,7 +33,7 @@ module _ {R : Type 0} (remaining : R → Option (List ℕ)) (gave : R → Result
   texts_read (a ∷ old) (t ∷ texts) (b ∷ new) are =
       ap (λ (text : List ℕ). text ∷ texts) (text_read a t b are.0) ∙ ap (λ (rest : List (List ℕ)). now a ∷ rest) (texts_read old texts new are.1)
 
--- a run that was read, stopped, written and told in some ways was so in ways that they lead to
+-- a run that was read, stopped, written and reported in some ways was so in ways that they lead to
 module _ (P : List (List ℕ) → Answer → Type 0) (read read_more : List (List ℕ) → Type 0) (stops stops_more : Source → NoInput → Type 0)
     (out out_more : Bool → List ℕ → Type 0) (unused unused_more : Type 0) (told told_more : List ℕ → Type 0)
     (reads : (texts : List (List ℕ)) → read texts → read_more texts) (stopped : (source : Source) (why : NoInput) → stops source why → stops_more source why)

@@ -29,7 +29,7 @@ text_for topology script trace Script = script
 text_for topology script trace Numbering = script
 text_for topology script trace Trace = trace
 
--- The faults are these lines, and sentences behind them where the words ask for sentences.
+-- The faults are these lines, and sentences after them where the words ask for sentences.
 abbrev pub AreFaults : Words → List ℕ → List ℕ → Type 0
 AreFaults words lines faults = (sentences : List ℕ) × (faults ≡ lines ++ sentences) × (words.explain ≡ false → sentences ≡ [])
 
@@ -50,11 +50,11 @@ IsCallAnswer typed text status output faults =
     ((words : Words) × Asks (typed_words typed) words × FitsItsKind words × IsFollowed words text status output faults)
     ⊎ ((status ≡ 2) × (output ≡ []) × IsRefusedText typed)
 
--- memory was refused, and nothing is told but that
+-- memory was refused, and nothing is reported but that
 abbrev pub IsOutOfMemory : ℕ → List ℕ → List ℕ → Type 0
 IsOutOfMemory status output faults = (status ≡ 3) × (output ≡ []) × (faults ≡ out_of_memory_line)
 
--- The room has what there is room for of the text, and behind that what it had; the length is that of the text.
+-- The room has what there is room for of the text, and after that what it had; the length is that of the text.
 abbrev pub IsPut : List ℕ → ℕ → List ℕ → List ℕ → Type 0
 IsPut text told old new = (told ≡ length text) × (new ≡ take (length old) text ++ drop (length text) old)
 

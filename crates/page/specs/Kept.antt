@@ -3,7 +3,7 @@ use Rattle.std.specs.Prelude.{◌≡◌, ℕ, false, List, ◌++◌, length, Res
 use Rattle.ir_streams.specs.declared.call.CallError.{CallError}
 use Rattle.page.specs.declared.kept.Kept.{Kept}
 
--- A write takes all bytes: they stand behind the others, unless memory was wanting, then or before.
+-- A write takes all bytes: they follow the others, unless memory was wanting, then or before.
 pub record TakesAll (old : Kept) (bytes : List ℕ) (taken : Result ℕ CallError) (new : Kept) : Type 0 where
   pub all : taken ≡ Ok (length bytes)
   pub before : new.is_short ≡ false → old.is_short ≡ false

@@ -11,7 +11,7 @@ use ir_cli::status_of;
 use ir_explain::{Given, Trouble, explanation};
 use std::alloc::{AllocError, Global};
 
-/// The most bytes of a line of faults that tells of one input.
+/// The most bytes of a line of faults that reports one input.
 const LINE: usize = 128;
 
 /// A status, the output and the faults.

@@ -1,6 +1,6 @@
 //! What `route` answers, for callers that are not Rattle: a web page, or a program in C. One call takes words and
 //! texts that lie in memory, and puts output and faults into rooms of its caller. No thread is started, so `live` is
-//! told as `no thread`.
+//! reported as `no thread`.
 #![tactic(auto)]
 
 mod answer;
@@ -33,11 +33,11 @@ fn put(room: &mut [u8], text: &[u8]) -> usize
 /// standard input where the words name `-`; the second is the script, or the order of nodes that `--numbering` names;
 /// the third is the trace. What the words do not ask for is not read.
 ///
-/// What there is room for of the output and of the lines of faults is put at the front of the rooms, and how long both
-/// are is told: where that is more than there is room for, the same call with larger rooms gives all of it. The
-/// sentences of `--explain` stand behind the lines of faults. The status is that of `route`: 0 done; 1 an input is
-/// refused, or there is a finding; 2 the words are refused, by the text in the room of the faults, where that of
-/// `--help` and `--version` is too; 3 memory was refused, or the words are those of `live`.
+/// What there is room for of the output and of the lines of faults is put at the front of the rooms, and both lengths
+/// are given. Where a length is more than there is room for, the same call with larger rooms gives all of it. The
+/// sentences of `--explain` follow the lines of faults. The status is that of `route`: 0 done; 1 an input is
+/// refused, or there is a finding; 2 the words are refused; 3 memory was refused, or the words are those of `live`.
+/// With 2 the text is in the room of the faults, where that of `--help` and `--version` is too.
 #[unsafe(no_mangle)]
 pub extern "C" fn bentzolu_run(
     alloc: Global,

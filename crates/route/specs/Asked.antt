@@ -1,4 +1,4 @@
--- What the words behind the program's name ask for.
+-- What the words after the program's name ask for.
 use Rattle.std.specs.Prelude.{◌≡◌, Bool, List, String, map, string_bytes}
 use Rattle.std.specs.Global.{Global}
 use Rattle.ir_cli.specs.declared.help.Called.{Called}
@@ -10,7 +10,7 @@ use Rattle.route.specs.Sentences.{are_wanted}
 abbrev pub with_sentences : Words → Bool → Words
 with_sentences words wanted = record words { explain = wanted }
 
--- The words are those that were read of what stands behind the program's name. Whether sentences are wanted also depends on
+-- The words are those that were read of what follows the program's name. Whether sentences are wanted also depends on
 -- whether standard error is held for a terminal.
 abbrev pub IsAskedBy : Called → List (String Global) → Words → Type 0
 IsAskedBy called given words =

@@ -1,4 +1,4 @@
--- When sentences for people stand behind the lines of faults.
+-- When sentences for people follow the lines of faults.
 use Rattle.std.specs.Prelude.{ℕ, Bool, not, List, ◌||◌, ◌&&◌, String, bytes_eq, codes, string_bytes, take_while}
 use Rattle.std.specs.Global.{Global}
 use Rattle.std.specs.List.{list_any}
@@ -7,7 +7,7 @@ use Rattle.std.specs.List.{list_any}
 abbrev pub is_this_word : List ℕ → String Global → Bool
 is_this_word option word = bytes_eq (string_bytes word) option
 
--- an option stands among the words: before a word `--`, behind which all are files
+-- an option is among the words: before a word `--`, after which all are files
 abbrev pub is_given : List ℕ → List (String Global) → Bool
 is_given option words = list_any (is_this_word option) (take_while (λ word. not (is_this_word (codes "--") word)) words)
 

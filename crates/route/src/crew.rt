@@ -5,7 +5,7 @@ use ir_plan::{Crew, NodeText, Several, made_in_threads};
 use std::alloc::{AllocError, Global};
 use std::thread::Threads;
 
-/// Several threads, of which the rows that are made are told to the line of progress.
+/// Several threads, of which the rows that are made are reported to the line of progress.
 #[derive(Drop)]
 pub struct Shown<'a, R> {
     pub several: Several<'a, R>,

@@ -1,11 +1,11 @@
 //! `route`: interval routing over a network. `route sim` plays the lines of a script over a topology, and prints what
-//! became of its packets; `route live` does so while each node runs in a thread of its own; `route check` checks such
-//! a print; `route plan` prints the labels and rows of a topology's nodes, `route walk` a walk of that plan, `route
-//! stats` its figures, `route draw` a drawing of it, `route prefixes` its forwarding tables, and `route ranges` its
-//! ranges of labels. With no words it does as `route sim -`, with both texts from standard input, and where that is a
-//! terminal it prints its help. Where standard error is a terminal, sentences for people follow the lines of
-//! faults, and a plan that takes longer than a second says there how far it is. A program that is called `bentzolu`
-//! calls itself so.
+//! became of its packets. `route live` does so while each node runs in a thread of its own, and `route check` checks
+//! what they print. `route plan` prints the labels and rows of a topology's nodes, `route walk` a walk of that plan,
+//! and `route stats` its figures. `route draw` prints a drawing of it, `route prefixes` its forwarding tables, and
+//! `route ranges` its ranges of labels. With no words it does as `route sim -`, with both texts from standard input,
+//! and where that is a terminal it prints its help. Where standard error is a terminal, sentences for people follow the
+//! lines of faults, and a plan that takes longer than a second says there how far it is. A program that is called
+//! `bentzolu` calls itself so.
 #![tactic(auto)]
 
 ghost use Rattle.std.specs.Prelude.{◌≡◌, ◌∷◌, [], IfOk, codes, drop, length, map, string_bytes};
@@ -63,7 +63,7 @@ fn behind_the_name(words: &[String]) -> &[String]
     if words.is_empty() { words } else { &words[1..] }
 }
 
-/// The words that stand for none: `sim -`. Where standard error is a terminal, it is told what is waited for.
+/// The words that stand for none: `sim -`. Where standard error is a terminal, it shows what is waited for.
 fn words_for_none(rt: &HostRuntime, name: &str) -> Result<Vec<String>, AllocError>
     ensures { IfOk result (λ words. map string_bytes words.items ≡ codes "sim" ∷ codes "-" ∷ []) }
 {

@@ -8,15 +8,15 @@ use std::time::Instant;
 /// How many milliseconds pass before anything is said.
 const PATIENCE: u64 = 1_000;
 
-/// How many milliseconds a line stands at least.
+/// How many milliseconds a line stays at least.
 const PAUSE: u64 = 100;
 
-/// The fewest rows behind which a line says that walks are counted.
+/// The fewest rows after which a line says that walks are counted.
 const MANY: usize = 2_048;
 
 /// A line on standard error that says how many rows of a plan are made, where that is a terminal and the command has
 /// run for a second. It goes away with the plan's last row; where figures are wanted and rows are many, a line that
-/// says so stands from then on to the output. Threads that make rows write it by turns.
+/// says so stays from then on to the output. Threads that make rows write it by turns.
 #[derive(Drop)]
 pub struct Progress<'a> {
     rt: &'a HostRuntime,

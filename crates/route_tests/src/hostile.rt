@@ -1,5 +1,5 @@
-//! The stored run of `route` under hostile use: texts that are cut off or changed, readers that fail or do not end, and
-//! writers that fail, that are interrupted, or that keep nothing before they are flushed.
+//! The stored run of `route` under hostile use: texts that are cut off or changed, readers that fail or do not end.
+//! Also writers that fail, that are interrupted, or that keep nothing before they are flushed.
 
 ghost use Rattle.std.specs.Prelude.{IfOk};
 ghost use Rattle.ir_cli.specs.Words.{FitsItsKind};
@@ -21,7 +21,7 @@ const TRACE: &str = "trace 1\n0 1 a c 2 delivered a b c\n";
 
 const CHECKED: &str = "a b\nb c\n%%\ninject a c\ndrain\n%%\ntrace 1\n0 1 a c 2 delivered a b c\n";
 
-/// What comes behind the text of a reader.
+/// What follows the text of a reader.
 #[derive(Clone, Copy)]
 enum Behind {
     Nothing,
@@ -260,7 +260,7 @@ fn texts_end<T: Threads + Wait + Sync>(rt: &T, alloc: Global) -> bool {
     true
 }
 
-/// Whether a reader that fails behind each front of the stored run is told of.
+/// Whether a reader that fails after each front of the stored run is reported.
 fn are_unreadable<T: Threads + Wait + Sync>(rt: &T, alloc: Global, sub: &str) -> bool {
     let Ok(words) = asked(alloc, sub) else {
         return false;
@@ -280,7 +280,7 @@ fn are_unreadable<T: Threads + Wait + Sync>(rt: &T, alloc: Global, sub: &str) ->
     true
 }
 
-/// Whether a writer that fails behind each front of the trace is told of.
+/// Whether a writer that fails after each front of the trace is reported.
 fn are_unwritable<T: Threads + Wait + Sync>(rt: &T, alloc: Global) -> bool {
     let Ok(words) = asked(alloc, "sim") else {
         return false;

@@ -1,7 +1,7 @@
-//! Tests of `route`: each example of `cases.json` has the words behind the program's name, the texts of its inputs, and
+//! Tests of `route`: each example of `cases.json` has the words after the program's name, the texts of its inputs, and
 //! what the program prints and ends with. The words are read as `route` reads them, and the run goes over the texts in
-//! memory. Told are the names of the examples that differ, how many examples there are, and how many of them differ;
-//! and behind them the stored run under hostile use, where it ends otherwise than it is to.
+//! memory. Printed are the names of the examples that differ, how many examples there are, and how many of them differ.
+//! After them comes the stored run under hostile use, where it ends otherwise than it should.
 #![tactic(auto)]
 
 mod hostile;
@@ -100,7 +100,7 @@ fn examples(rt: &HostRuntime) -> Result<String, Error> {
     }
 }
 
-/// How many examples differ, each of which is told by its name.
+/// How many examples differ, each of which is reported by its name.
 fn differing<T: Threads + Wait + Sync>(
     rt: &HostRuntime,
     threads: &T,
@@ -116,7 +116,7 @@ fn differing<T: Threads + Wait + Sync>(
     Ok(differ)
 }
 
-/// Runs every example, tells how many there are and how many differ, and answers whether all is as it is to be.
+/// Runs every example, says how many there are and how many differ, and answers whether all is as it is to be.
 fn tell<T: Threads + Wait + Sync>(rt: &HostRuntime, threads: &T) -> Result<bool, Error> {
     let text = examples(rt)?;
     let all: Vec<Example> = serde_json::from_str(rt.alloc(), text.as_str())?;

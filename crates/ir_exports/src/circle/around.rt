@@ -178,7 +178,7 @@ fn push_bounds(text: &mut String, graph: &Graph, plan: &Plan, u: u16) -> TextRes
     Ok(())
 }
 
-/// Writes what stands round the circle.
+/// Writes what is round the circle.
 pub fn push_around(text: &mut String, graph: &Graph, plan: &Plan, u: u16) -> TextResult
     requires nodes { node_count plan.now.topology ≡ length graph.now }
     requires node { u < length graph.now }

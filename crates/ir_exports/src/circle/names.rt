@@ -1,4 +1,4 @@
-//! Names as they stand in XML.
+//! Names as they are in XML.
 ghost use Rattle.std.specs.Prelude.{◌≡◌, ◌<◌, ◌≤◌, ◌++◌, true, OnOk, length, take, string_bytes};
 ghost use Rattle.ir_model.specs.Graph.{names};
 ghost use Rattle.ir_trace.specs.{Rows.is_word, Written.name_at};

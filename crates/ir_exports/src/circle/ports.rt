@@ -70,7 +70,7 @@ fn goes_by(interval: Interval, port: u16) -> bool
     interval.port == port
 }
 
-/// Writes an interval behind a space, if fewer than six were written before.
+/// Writes an interval after a space, if fewer than six were written before.
 fn push_early(text: &mut String, interval: Interval, seen: usize) -> TextResult
     ensures { OnOk result (string_bytes text.new ≡ string_bytes text.old
         ++ (if nat_lt seen 6 then spaced (said (as_interval interval)) else [])) }

@@ -52,7 +52,7 @@ fn push_ring_nodes(text: &mut String, graph: &Graph, plan: &Plan, u: u16) -> Tex
     Ok(())
 }
 
-/// The label behind another of `n` labels.
+/// The label after another of `n` labels.
 fn label_behind(n: u16, d: u16) -> u16
     requires { d < n }
     ensures label { result ≡ label_behind n d }
@@ -133,10 +133,10 @@ fn push_ring_head(text: &mut String) -> TextResult
 }
 
 /// The circle of labels for Graphviz: a `strict graph` of all nodes in a ring by label, each with
-/// its name and label in the colour of the port that `u` has for it, and a box for each of its
-/// first 30 ports with the neighbour's name and its intervals. Condition: the plan is over the
-/// graph's network, of which `u` is a node. It is refused for memory alone. Takes O(n log k), for n
-/// nodes and k intervals of `u`.
+/// its name and label in the colour of the port that `u` has for it. Each of its first 30 ports has
+/// a box with the neighbour's name and its intervals. Condition: the plan is over the graph's
+/// network, of which `u` is a node. It is refused for memory alone. Takes O(n log k), for n nodes
+/// and k intervals of `u`.
 pub fn circle_dot(alloc: Global, graph: &Graph, plan: &Plan, u: u16) -> Result<String, AllocError>
     requires nodes { node_count plan.now.topology ≡ length graph.now }
     requires node { u < length graph.now }

@@ -170,9 +170,9 @@ fn push_middle(text: &mut String, graph: &Graph, plan: &Plan, u: u16) -> TextRes
     Ok(())
 }
 
-/// The circle of labels as SVG, with an arc for each interval of a node in the colour of its port,
-/// and beside it a line for each of its first 30 ports with the neighbour's name and its intervals.
-/// Each label stands there with its node's name up to 64 nodes; above, the bounds of up to 64
+/// The circle of labels as SVG, with an arc for each interval of a node in the colour of its port.
+/// Beside it each of its first 30 ports has a line with the neighbour's name and its intervals.
+/// Each label is there with its node's name up to 64 nodes; above, the bounds of up to 64
 /// intervals. Condition: the plan is over the graph's network, of which `u` is a node. It is
 /// refused for memory alone. Takes O(n), for n nodes.
 pub fn circle_svg(alloc: Global, graph: &Graph, plan: &Plan, u: u16) -> Result<String, AllocError>

@@ -9,7 +9,7 @@ use Rattle.ir_control.proofs.channels.port_back.Goals as goal
 abbrev no_hop : Hop
 no_hop = record { node = 0; link = 0; weight = 0 }
 
--- the hop of this turn stands at its place
+-- the hop of this turn is at its place
 hop_read : (row now : List Hop) (q : ℕ) → now ≡ row → q < length now → slice_get row q ≡ Some (get_or now q no_hop)
 hop_read row now q e lt =
     subst (λ (r : List Hop). slice_get r q ≡ Some (get_or now q no_hop)) e

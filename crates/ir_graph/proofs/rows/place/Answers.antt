@@ -7,7 +7,7 @@ use Rattle.ir_graph.proofs.Views.{length-rows_view}
 use Rattle.ir_graph.proofs.Edges.{slice_get-behind}
 use Rattle.ir_graph.proofs.rows.place.Goals as goal
 
--- a node that is added stands last
+-- a node that is added is last
 last_place : (g : Adjacency) (x : Name) (n : ℕ) → false ≡ has_node g x → n ≡ length g → slice_get (names (with_node g x)) n ≡ Some x
 last_place g x n absent at =
     ap (λ b. slice_get (names (cond b g (g ++ (x, []) ∷ []))) n) (sym absent)

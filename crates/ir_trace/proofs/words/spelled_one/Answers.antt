@@ -7,7 +7,7 @@ use Rattle.ir_trace.proofs.ReadParts.{head_tail}
 use Rattle.ir_trace.proofs.ReadSpellings.{no_id, no_head_behind, no_hops, spells}
 use Rattle.ir_trace.proofs.words.spelled_one.Goals as goal
 
--- the words are the first, and those behind it
+-- the words are the first, and those after it
 first_behind : (words : List (Bor (List ℕ))) → 1 ≤ length words → texts words ≡ (get_or words 0 (record { ref_ptr = (0, 0); now = [] })).now ∷ texts (take (length words - 1) (drop 1 words))
 first_behind words some = ap texts (head_tail words (record { ref_ptr = (0, 0); now = [] }) some)
 

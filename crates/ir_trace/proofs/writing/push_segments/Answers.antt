@@ -14,7 +14,7 @@ use Rattle.ir_trace.proofs.writing.push_segments.Goals as goal
 abbrev words_from : List Name → ℕ → ℕ → List ℕ → List Restamp → List ℕ
 words_from nodes epoch from hops restamps = flat_map spaced (flat_map part_words (map (named nodes) (parts_from epoch from hops restamps)))
 
--- the segment before a restamp is put before those behind it
+-- the segment before a restamp is put before those after it
 one_more : (nodes : List Name) (old : List ℕ) (epoch from : ℕ) (hops : List ℕ) (s : Restamp) (later : List Restamp)
     → (old ++ flat_map spaced (part_words (named nodes (record { epoch = epoch; hops = take ((s.from + 1) - from) (drop from hops) })))) ++ words_from nodes s.epoch s.from hops later
     ≡ old ++ words_from nodes epoch from hops (s ∷ later)

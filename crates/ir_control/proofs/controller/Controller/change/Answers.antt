@@ -22,7 +22,7 @@ given_on : {A E F : Type 0} (from : Result A E) (to : Result A F) (G : E → Typ
 given_on (Ok x) to G ok is = is
 given_on (Err e) to G ok is = tt
 
--- what a call's value tells, where there is a value
+-- what a call's value says, where there is a value
 told_by : {A E X : Type 0} (from : Result A E) (C : A → Type 0) → IsOk from → IfOk from C → ((x : A) → C x → X) → X
 told_by (Ok x) C ok c give = give x c
 told_by (Err e) C ok c give = absurd (false≢true ok)

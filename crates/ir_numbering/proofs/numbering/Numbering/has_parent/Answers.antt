@@ -6,7 +6,7 @@ use Rattle.ir_model.specs.Tree.{IsParent}
 use Rattle.ir_numbering.specs.Numbering.{Numbering, AreSoundNumbers}
 use Rattle.ir_numbering.proofs.numbering.Numbering.has_parent.Goals as goal
 
--- the places of the parent are one, as it is read and as it is told
+-- the places of the parent are one, as it is read and as it is reported
 parent_told : (s : Numbering) → AreSoundNumbers s → (node parent place read label : ℕ) → node < length s.order → parent < length s.order → 0 < place → place ≡ slice_index s.labels node
     → read ≡ slice_index s.parents place → label ≡ slice_index s.labels parent → IsTrue (read == label) ↔ IsParent s.order s.parents node parent
 parent_told s sound node parent place read label node_in parent_in some is reads labelled =

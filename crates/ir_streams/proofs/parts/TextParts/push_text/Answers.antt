@@ -24,7 +24,7 @@ few_kept false n kept few = omega (arith, few, length-take n kept)
 put_in : (v : Vec ℕ) (items : List ℕ) → length items ≡ length v.items → (with_items v items).items ≡ items
 put_in v items same = with_items_is v items (same ∙ sym v.ok.0)
 
--- what has room behind the first bytes
+-- what has room after the first bytes
 room_behind : (count n old len front new : ℕ) → len ≡ old → n ≤ len - count → front ≡ n → new ≡ old → count ≤ old → count + front ≤ new
 room_behind count n old len front new measured room is same within = omega (arith, measured, room, is, same, within)
 
