@@ -71,14 +71,14 @@ def once(graph: Any, failures: Any, kind: Any) -> tuple[Any, Any]:
     return after[0] - before[0], after[1] - before[1]
 
 
-def took(*words, text=""):
+def took(*words: Any, text: Any = "") -> Any:
     """Milliseconds of a processor of a run of the program."""
     before = processor()[1]
     subprocess.run([bentzolu.find_program(), *words], input=text.encode(), stdout=subprocess.DEVNULL, check=True)
     return (processor()[1] - before) * 1e3
 
 
-def each(turns):
+def each(turns: Any) -> None:
     nets = [("nsfnet 14/21", [(u, v) for u, v in links_of(EXAMPLES / "nsfnet.edgelist")]), ("random 128/256", made("random", 128, 256)),
             ("random 256/1,024", made("random", 256, 1024))]
     for name, links in nets:
@@ -94,8 +94,9 @@ def each(turns):
             print(f"{name}, {kind}: plan {plan:.2f} ms, stats {stats:.2f} ms, a failure {failure:.2f} ms, {failure / plan:.1f} plans", flush=True)
 
 
-def processes(turns):
-    graph, found = made("random", 128, 256), {}
+def processes(turns: Any) -> None:
+    graph = made("random", 128, 256)
+    found: Any = {}
     for _ in range(turns):
         for jobs in (1, 2, 4):
             before, began = processor(), time.perf_counter()
@@ -124,9 +125,11 @@ def dask(turns: Any) -> None:
     command = [sys.executable, "-m", "distributed.cli.dask_worker", "tcp://127.0.0.1:18786", "--no-nanny", "--nthreads", "1", "--no-dashboard"]
     environment = {"PYTHONPATH": ":".join(sys.path), "PATH": "/usr/bin:/bin"}
     workers = [subprocess.Popen(command, stderr=subprocess.DEVNULL, env=environment) for _ in range(4)]
-    graph, found = made("random", 128, 256), {"processes": [], "dask": []}
+    graph = made("random", 128, 256)
+    found: Any = {"processes": [], "dask": []}
     try:
-        with distributed.Client("tcp://127.0.0.1:18786", timeout=120) as client, concurrent.futures.ProcessPoolExecutor(4) as pool:
+        client_of: Any = distributed.Client
+        with client_of("tcp://127.0.0.1:18786", timeout=120) as client, concurrent.futures.ProcessPoolExecutor(4) as pool:
             client.wait_for_workers(4, timeout=120)
             engines = {"processes": pool, "dask": client.get_executor(retries=3)}
             for turn in range(turns + 1):
@@ -156,7 +159,8 @@ def memory() -> None:
 
 def main() -> None:
     what, turns = sys.argv[1], int(sys.argv[2]) if len(sys.argv) > 2 else 3
-    {"cost": cost, "each": each, "processes": processes, "dask": dask, "memory": lambda _: memory()}[what](turns)
+    parts: Any = {"cost": cost, "each": each, "processes": processes, "dask": dask, "memory": lambda _: memory()}
+    parts[what](turns)
 
 
 if __name__ == "__main__":

@@ -133,7 +133,7 @@ def test_each() -> None:
         count_ = luck.randint(2, 14)
         nodes = [f"n{u}" for u in range(count_)]
         chosen = {(luck.randrange(v), v) for v in range(1, count_)}
-        chosen |= {tuple(sorted(luck.sample(range(count_), 2))) for _ in range(luck.randint(0, 2 * count_))}  # type: ignore[arg-type]
+        chosen |= {(min(two), max(two)) for two in (luck.sample(range(count_), 2) for _ in range(luck.randint(0, 2 * count_)))}
         edges = [(f"n{u}", f"n{v}", luck.randint(1, 9)) for u, v in luck.sample(sorted(chosen), len(chosen))]
         text = "".join(f"{node} {node} 1\n" for node in nodes) + "".join(f"{u} {v} {weight}\n" for u, v, weight in edges)
         net = put(f"each/{turn}.edgelist", text)

@@ -4,6 +4,7 @@ from __future__ import annotations
 import itertools
 import os
 import re
+from typing import List
 
 from support.book import ByTheBook
 from support.checks import count
@@ -59,7 +60,8 @@ def test_landmarks_drawn() -> None:
     with open(os.path.join(TOP, "examples/nsfnet.edgelist")) as file:
         nsfnet = file.read()
     nets = {"nsfnet": nsfnet, "path": "a b 1\nb c 1\nc d 1\nd e 1\ne f 1\nf g 1\n", "pair": "a b 1\n"}
-    for (name, text), more in itertools.product(nets.items(), ([], ["--landmarks", "1"], ["--landmarks", "4"], ["--landmarks", "9"])):
+    counts: List[List[str]] = [[], ["--landmarks", "1"], ["--landmarks", "4"], ["--landmarks", "9"]]
+    for (name, text), more in itertools.product(nets.items(), counts):
         words = ["--format", "edgelist", "--kind", "landmark", *more, put(f"landmarks/{name}", text)]
         figures = run(["stats", *words])[0].decode().splitlines()
         landmarks = next(line.split()[1:] for line in figures if line.startswith("landmarks "))

@@ -192,7 +192,8 @@ def test_lines() -> None:
     refused("lines of parts", run(["xdp", "table", "1", "--node", "a", put("lined/apart", "a b\nc d\n")]), "opening Disconnected")
     refused("lines of too many labels", run(["xdp", "table", "1", "--node", "n0", put("lined/more", lone(GRAPH_NODES + 1))]),
             f"topology {GRAPH_NODES + 1} TooManyNodes")
-    for words_ in (["table", "0"], ["table", "65536"], ["table", "-1"], ["table", "one"], ["tables", "1"], ["1", "table"], ["table"], []):
+    others: List[List[str]] = [["table", "0"], ["table", "65536"], ["table", "-1"], ["table", "one"], ["tables", "1"], ["1", "table"], ["table"], []]
+    for words_ in others:
         expect(f"not understood: xdp {words_}", run(["xdp", *words_, "--node", "a", good]), b"", SOME, 2)
     for words_ in (["table", "1", good], ["table", "1", "--node", "a", "--json", good], ["table", "1", "--node", "a", "--binary", "--json", good],
                    ["table", "1", "--node", "a", "--from", "a", good], ["table", "1", "--node", "a", good, good]):
@@ -223,7 +224,7 @@ def test_nodes() -> None:
             plan = run(["plan", *words_, net])[0]
             count_ = plan.count(b"\n") - 1
             spans = [(0, 0), (0, count_ - 1), (count_ - 1, count_ - 1)]
-            spans += [tuple(sorted((luck.randrange(count_), luck.randrange(count_)))) for _ in range(3)]
+            spans += [(min(two), max(two)) for two in ((luck.randrange(count_), luck.randrange(count_)) for _ in range(3))]
             for first, last in spans:
                 got = run(["plan", "--nodes", f"{first}-{last}", *words_, net])
                 expect(f"nodes {first}-{last} of {name}, {words_}", got, of_nodes(plan, first, last), b"", 0)

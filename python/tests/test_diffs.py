@@ -6,6 +6,7 @@ import subprocess
 import sys
 import tempfile
 import unittest
+from typing import Any
 
 from common import TOP, bentzolu, needs_route
 from plain_changes import changes_text, patched, rows_of
@@ -13,16 +14,16 @@ from plain_changes import changes_text, patched, rows_of
 NAMES = ["+", "-", "a", "b", "1", "x+y", "0", "z9", "Ab", "q", "w", "e", "r", "t", "u", "i", "o", "p"]
 
 
-def connected(chance, names):
+def connected(chance: Any, names: Any) -> Any:
     """The edges of a random connected network of these nodes, in a random order."""
     names = chance.sample(names, len(names))
-    edges = [(names[place], names[chance.randrange(place)]) for place in range(1, len(names))]
+    edges: Any = [(names[place], names[chance.randrange(place)]) for place in range(1, len(names))]
     edges += [tuple(chance.sample(names, 2)) for _ in range(chance.randrange(len(names) + 1))]
     chance.shuffle(edges)
     return [(u, v, chance.choice((1, 1, 1, 2, 5))) for u, v in edges]
 
 
-def text_of(plan):
+def text_of(plan: Any) -> Any:
     """The text that `route plan` prints of a plan, without the number of intervals."""
     rows = [" ".join([str(it.node), str(it.label), *(f"{start} {to}" for start, to in zip(it.starts, it.neighbours))]) for it in plan.nodes.values()]
     return "\n".join([f"plan {plan.kind} {len(rows)}", *rows]) + "\n"
@@ -30,14 +31,15 @@ def text_of(plan):
 
 @needs_route
 class ChangesTest(unittest.TestCase):
-    def held(self, old, new):
+    def held(self, old: Any, new: Any) -> Any:
         """Holds what changes between two plans to the plain rule, and puts it into the old rows."""
         found = bentzolu.diff(old, new)
         text = changes_text(text_of(old), text_of(new))
         self.assertEqual(found.text(), text)
         self.assertEqual(bentzolu.patched(old, found), new)
         head, *lines = text.splitlines()
-        before, after = rows_of(text_of(old))[1], rows_of(text_of(new))[1]
+        before: Any = rows_of(text_of(old))[1]
+        after: Any = rows_of(text_of(new))[1]
         told = {line.split()[0]: line.split() for line in lines}
         for name, (label, row) in after.items():
             words = told.get(name, [name, str(before[name][0]), str(before[name][0])])
@@ -51,7 +53,7 @@ class ChangesTest(unittest.TestCase):
             self.assertEqual([row["node"], str(row["was"]), str(row["label"]), *" ".join(step for _, step in sorted(steps)).split()], told[row["node"]])
         return len(lines)
 
-    def test_random_pairs(self):
+    def test_random_pairs(self) -> None:
         chance = random.Random(300)
         changed = 0
         for _ in range(300):
@@ -62,7 +64,7 @@ class ChangesTest(unittest.TestCase):
             changed += self.held(bentzolu.plan(old, kind, **given), bentzolu.plan(new, kind, **given))
         self.assertGreater(changed, 1000)
 
-    def test_kept_labels(self):
+    def test_kept_labels(self) -> None:
         chance = random.Random(301)
         for _ in range(20):
             names = chance.sample(NAMES, chance.randrange(3, len(NAMES)))
@@ -73,7 +75,7 @@ class ChangesTest(unittest.TestCase):
             self.held(old, new)
             self.assertEqual(bentzolu.diff(old, new).relabelled, 0)
 
-    def test_words(self):
+    def test_words(self) -> Any:
         with tempfile.TemporaryDirectory() as folder:
             put = {"old": "a b\nb c\nc d\nd a\n", "new": "a b\nb c\nc d\n", "other": "a b\nb c\nc e\n"}
             files = {}
@@ -81,7 +83,7 @@ class ChangesTest(unittest.TestCase):
                 files[name] = str(pathlib.Path(folder, f"{name}.adjlist"))
                 pathlib.Path(files[name]).write_text(text)
 
-            def said(*words):
+            def said(*words: Any) -> Any:
                 done = subprocess.run([sys.executable, "-m", "bentzolu", "diff", *words], cwd=TOP / "python", capture_output=True, text=True)
                 return done.returncode, done.stdout, done.stderr
             wanted = "diff shortest shortest 4 3 0 3 2\na 0 0 - 3\nb 1 1 + 0 a - 3\nd 3 3 + 0 c - 1\n"

@@ -1,13 +1,14 @@
 """Figures without each link beside those of `stats`, and texts that are none."""
 import random
 import unittest
+from typing import Any
 from fractions import Fraction
 
 from common import bentzolu, needs_route, networkx
 from bentzolu import FormatError, LinkFigures, read_link_failures
 
 
-def figures_of(graph, kind):
+def figures_of(graph: Any, kind: Any) -> Any:
     """The figures of the plan, by `stats`."""
     found = bentzolu.stats(graph, kind)
     worst = None if found.worst is None else Fraction(found.worst.walk, found.worst.distance)
@@ -16,12 +17,12 @@ def figures_of(graph, kind):
 
 class Failing(unittest.TestCase):
     @needs_route
-    def test_graphs(self):
+    def test_graphs(self) -> None:
         draw = random.Random(1)
         for kind in ("shortest", "compact", "tree"):
             graph = networkx.Graph()
             graph.add_nodes_from(range(draw.randint(3, 9)))
-            chosen = {(draw.randrange(v), v) for v in range(1, len(graph))}
+            chosen: Any = {(draw.randrange(v), v) for v in range(1, len(graph))}
             chosen |= {tuple(sorted(draw.sample(range(len(graph)), 2))) for _ in graph}
             graph.add_weighted_edges_from((u, v, draw.randint(1, 9)) for u, v in sorted(chosen))
             found = bentzolu.link_failures(graph, kind)
@@ -31,14 +32,14 @@ class Failing(unittest.TestCase):
             self.assertEqual(cut, {tuple(sorted(link)) for link in networkx.bridges(graph)})
 
     @needs_route
-    def test_ring(self):
+    def test_ring(self) -> None:
         found = bentzolu.link_failures(networkx.cycle_graph(5))
         path = figures_of(networkx.path_graph(5), "shortest")
         self.assertEqual([failure.figures.stretch for failure in found.failures], [path.stretch] * 5)
         self.assertEqual(found.intact.ring, True)
         self.assertEqual({failure.figures.ring for failure in found.failures}, {False})
 
-    def test_texts(self):
+    def test_texts(self) -> None:
         head = "each links tree 2 1 2 1 4 8/8 4/4 acyclic\n"
         for text in ("", "stats tree 2\n", "each links tree 2 1\n", head.replace("acyclic", "round"), head + "a b\n", head + "a b 1 2 3\n",
                      head + "a b 1 2 x 1/1 1/1 cycle\n"):

@@ -3,6 +3,7 @@ import concurrent.futures
 import pathlib
 import tempfile
 import unittest
+from typing import Any
 
 from common import TOP, bentzolu, needs_route
 
@@ -14,24 +15,24 @@ NSFNET = TOP / "examples/nsfnet.edgelist"
 class Ended(concurrent.futures.Executor):
     """An executor that takes nothing more."""
 
-    def submit(self, *words, **more):
+    def submit(self, *words: Any, **more: Any) -> Any:
         raise concurrent.futures.BrokenExecutor("it is gone")
 
 
 @needs_route
 class ShardTest(unittest.TestCase):
-    def setUp(self):
+    def setUp(self) -> None:
         folder = tempfile.TemporaryDirectory()
         self.addCleanup(folder.cleanup)
         self.folder = pathlib.Path(folder.name)
 
-    def lines(self, files):
+    def lines(self, files: Any) -> Any:
         return [line for file in files for line in pathlib.Path(file).read_text().splitlines()[1:]]
 
-    def wanted(self, *words):
+    def wanted(self, *words: Any) -> Any:
         return program.run(["plan", *words], [("topology", NSFNET)]).output.splitlines()[1:]
 
-    def test_kinds_and_numberings(self):
+    def test_kinds_and_numberings(self) -> None:
         for at, words in enumerate((["--kind", "shortest"], ["--kind", "compact"], ["--kind", "tree"], ["--kind", "landmark"],
                                     ["--kind", "compact", "--numbering", "tour", "--root", "Houston"])):
             with self.subTest(words=words):
@@ -39,14 +40,14 @@ class ShardTest(unittest.TestCase):
                 self.assertEqual([pathlib.Path(file).name for file in files], [f"shard-00{i}.plan" for i in range(4)])
                 self.assertEqual(self.lines(files), self.wanted(*words))
 
-    def test_more_shards_than_nodes(self):
+    def test_more_shards_than_nodes(self) -> None:
         files = bentzolu.plan_shards([("a", "b"), ("b", "c")], out=self.folder, shards=9)
         self.assertEqual([pathlib.Path(file).read_text().split("\n")[0] for file in files],
                          ["plan shortest 3 1 0 0", "plan shortest 3 2 1 1", "plan shortest 3 1 2 2"])
         with self.assertRaises(ValueError):
             bentzolu.plan_shards([("a", "b")], out=self.folder, shards=0)
 
-    def test_goes_on(self):
+    def test_goes_on(self) -> None:
         with concurrent.futures.ThreadPoolExecutor(2) as pool:
             files = bentzolu.plan_shards(NSFNET, out=self.folder, shards=5, executor=pool)
         whole = self.lines(files)
@@ -59,9 +60,10 @@ class ShardTest(unittest.TestCase):
         pathlib.Path(files[0]).unlink()
         self.assertEqual(self.lines(bentzolu.plan_shards(NSFNET, out=self.folder, shards=5)), whole)
 
-    def test_refused(self):
+    def test_refused(self) -> None:
         bentzolu.plan_shards(NSFNET, out=self.folder, shards=2)
-        for more in ({"kind": "tree"}, {"shards": 3}, {"root": "Houston"}):
+        others: Any = ({"kind": "tree"}, {"shards": 3}, {"root": "Houston"})
+        for more in others:
             with self.subTest(**more), self.assertRaisesRegex(bentzolu.ResultsError, "another plan"):
                 bentzolu.plan_shards(NSFNET, **{"out": self.folder, "shards": 2, **more})
         with self.assertRaisesRegex(bentzolu.RouteError, "Disconnected"):
@@ -70,7 +72,7 @@ class ShardTest(unittest.TestCase):
         with self.assertRaises(bentzolu.ResultsError):
             bentzolu.plan_shards(NSFNET, out=self.folder / "file")
 
-    def test_words(self):
+    def test_words(self) -> None:
         words = ["--kind", "compact", "-n", "tour", "--root=a", "--numbering=tour", "-ntour", "-r", "b"]
         self.assertEqual(sharding.without_order(words), ["--kind", "compact"])
 

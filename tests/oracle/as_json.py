@@ -106,20 +106,20 @@ def compared(row: Any) -> dict[Any, Any]:
             "worst-stretch": parts(row[6], "/", ("walk", "distance")), "dependencies": row[7]}
 
 
-def measured(row):
+def measured(row: Any) -> dict[Any, Any]:
     return {**fields("#intervals #greatest-row #bits", row), "mean-stretch": parts(row[3], "/", ("walks", "distances")),
             "worst-stretch": parts(row[4], "/", ("walk", "distance")), "dependencies": row[5]}
 
 
-def failure(row):
+def failure(row: Any) -> dict[Any, Any]:
     return {"link": row[:2], **({"disconnected": True} if row[2] == "disconnected" else measured(row[2:]))}
 
 
-def each(lines):
+def each(lines: Any) -> tuple[Any, Any, Any]:
     return {**fields("each kind #nodes #links", lines[0][1:]), **measured(lines[0][5:])}, "failures", [failure(row) for row in lines[1:]]
 
 
-def shown(value):
+def shown(value: Any) -> Any:
     return json.dumps(value, separators=(",", ":"))
 
 
@@ -137,7 +137,8 @@ def json_of(sub: Any, text: Any) -> Any:
         figures = [figure(row) for row in lines]
         return {name: value for row in figures for name, value in row.items()}, "{\n" + ",\n".join(shown(row)[1:-1] for row in figures) + "\n}\n"
     if sub == "compare":
-        head, rows, bits = {"compare": fields("#nodes #links", lines[0][1:])}, [compared(row) for row in lines[2:-1]], {"tables": {"bits": int(lines[-1][4])}}
+        rows: Any = [compared(row) for row in lines[2:-1]]
+        head, bits = {"compare": fields("#nodes #links", lines[0][1:])}, {"tables": {"bits": int(lines[-1][4])}}
         return {**head, "plans": rows, **bits}, f'{shown(head)[:-1]},"plans":[\n{listed(rows)}\n],\n{shown(bits)[1:-1]}\n}}\n'
     head, name, rows = {"plan": plan, "each": each, "order": order, "walk": walk, "prefixes": prefixes, "ranges": ranges}.get(sub, trace)(lines)
     front = shown(head)[:-1] + ("," if head else "") + shown(name)
