@@ -71,7 +71,8 @@ def once(graph: Any, failures: Any, kind: Any) -> tuple[Any, Any]:
 
 
 def processes(turns: Any) -> None:
-    graph, found = made("random", 128, 256), {}
+    graph = made("random", 128, 256)
+    found: dict[Any, Any] = {}
     for _ in range(turns):
         for jobs in (1, 2, 4):
             before, began = processor(), time.perf_counter()
@@ -100,9 +101,10 @@ def dask(turns: Any) -> None:
     command = [sys.executable, "-m", "distributed.cli.dask_worker", "tcp://127.0.0.1:18786", "--no-nanny", "--nthreads", "1", "--no-dashboard"]
     environment = {"PYTHONPATH": ":".join(sys.path), "PATH": "/usr/bin:/bin"}
     workers = [subprocess.Popen(command, stderr=subprocess.DEVNULL, env=environment) for _ in range(4)]
-    graph, found = made("random", 128, 256), {"processes": [], "dask": []}
+    graph = made("random", 128, 256)
+    found: Any = {"processes": [], "dask": []}
     try:
-        with distributed.Client("tcp://127.0.0.1:18786", timeout=120) as client, concurrent.futures.ProcessPoolExecutor(4) as pool:
+        with distributed.Client("tcp://127.0.0.1:18786", timeout=120) as client, concurrent.futures.ProcessPoolExecutor(4) as pool:  # type: ignore[no-untyped-call]
             client.wait_for_workers(4, timeout=120)
             engines = {"processes": pool, "dask": client.get_executor(retries=3)}
             for turn in range(turns + 1):
@@ -132,7 +134,7 @@ def memory() -> None:
 
 def main() -> None:
     what, turns = sys.argv[1], int(sys.argv[2]) if len(sys.argv) > 2 else 3
-    {"cost": cost, "processes": processes, "dask": dask, "memory": lambda _: memory()}[what](turns)
+    {"cost": cost, "processes": processes, "dask": dask, "memory": lambda _: memory()}[what](turns)  # type: ignore[no-untyped-call]
 
 
 if __name__ == "__main__":
