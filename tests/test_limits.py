@@ -12,7 +12,7 @@ from support.limits import (
 )
 from support.marks import alone, built, slow, within
 from support.networks import all_pairs, crossing, row_of, with_chords
-from support.route import Got, SOME, alike, brief, expect, put, run
+from support.route import Got, SOME, brief, expect, put, run
 from test_sizes import Chain
 
 pytestmark = [built]
