@@ -29,8 +29,9 @@ def case_of(module: str) -> Callable[[], None]:
             environment["BENTZOLU_ROUTE"] = built_program()
         command = [sys.executable, os.path.join(TOP, "tests", "support", "unittests.py"), module]
         done = subprocess.run(command, cwd=TOP, env=environment, stdin=subprocess.DEVNULL, stdout=subprocess.PIPE,
-                              stderr=subprocess.STDOUT, text=True, timeout=SECONDS, check=False)
-        add(f"python/tests/{module}.py", done.stdout, done.returncode)
+                              stderr=subprocess.PIPE, text=True, timeout=SECONDS, check=False)
+        # Engines may still write to standard error when all tests are done: what is printed ends with the count.
+        add(f"python/tests/{module}.py", f"{done.stderr}\n{done.stdout}", done.returncode)
 
     test.__doc__ = f"The tests of python/tests/{module}.py."
     return test

@@ -107,7 +107,7 @@ TYPED = [
     (r"docs/", "docs"),
     (r"bench/[^/]*$", "bench"),
     (r"bench/(kernel|live|plane)/", "bench/kernel"),
-    (r"python/(tests/|setup)|plane/", "python/tests:python"),
+    (r"python/(tests/|setup)", "python/tests:python"),
 ]
 
 

@@ -41,7 +41,7 @@ def ring(nodes: int) -> Made:
 
 
 def grid(rows: int, columns: int) -> Made:
-    links = []
+    links: List[Link] = []
     for row in range(rows):
         for column in range(columns):
             if column + 1 < columns:
@@ -52,7 +52,7 @@ def grid(rows: int, columns: int) -> Made:
 
 
 def torus(rows: int, columns: int) -> Made:
-    links = []
+    links: List[Link] = []
     for row in range(rows):
         for column in range(columns):
             links.append((f"{row}_{column}", f"{row}_{(column + 1) % columns}"))
@@ -66,7 +66,7 @@ def constellation(planes: int, satellites: int) -> Made:
 
 def hypercube(dimensions: int) -> Made:
     names = [format(u, f"0{dimensions}b") for u in range(1 << dimensions)]
-    links = []
+    links: List[Link] = []
     for u in range(len(names)):
         links += [(names[u], names[u | 1 << bit]) for bit in range(dimensions) if not u >> bit & 1]
     return "A hypercube", links
@@ -78,7 +78,7 @@ def clos(spines: int, leaves: int) -> Made:
 
 def fattree(k: int) -> Made:
     half = k // 2
-    links = []
+    links: List[Link] = []
     for pod in range(k):
         for a in range(half):
             links += [(f"a{pod}_{a}", f"e{pod}_{e}") for e in range(half)]
@@ -88,7 +88,7 @@ def fattree(k: int) -> Made:
 
 def dragonfly(routers: int, outward: int) -> Made:
     groups = routers * outward + 1
-    links = []
+    links: List[Link] = []
     for group in range(groups):
         links += [(f"{group}_{a}", f"{group}_{b}") for a in range(routers) for b in range(a + 1, routers)]
         for far in range(group + 1, groups):
@@ -117,7 +117,7 @@ def random_network(nodes: int, wanted: int) -> Made:
 
 
 def scalefree(nodes: int, each: int) -> Made:
-    links = [(f"n{u}", f"n{each}") for u in range(each)]
+    links: List[Link] = [(f"n{u}", f"n{each}") for u in range(each)]
     ends = [end for link in links for end in link]
     for u in range(each + 1, nodes):
         chosen: List[str] = []

@@ -35,7 +35,7 @@ class PagesTest(unittest.TestCase):
         before = os.environ["PATH"]
         self.addCleanup(os.environ.__setitem__, "PATH", before)
         os.chdir(folder.name)
-        pathlib.Path("route").symlink_to(pathlib.Path(ROUTE).resolve())
+        pathlib.Path("bentzolu").symlink_to(pathlib.Path(ROUTE).resolve())
         os.environ["PATH"] = os.pathsep.join([folder.name, before])
 
     def printed(self, code: Any, names: Any) -> Any:
@@ -90,7 +90,7 @@ class PagesTest(unittest.TestCase):
         """The lines of examples/README.md make the files of that folder again, byte for byte."""
         for code, _ in blocks("examples/README.md"):
             self.printed(code, {})
-        made = sorted(path.name for path in pathlib.Path().iterdir() if path.name != "route")
+        made = sorted(path.name for path in pathlib.Path().iterdir() if path.name != "bentzolu")
         self.assertGreater(len(made), 4)
         for name in made:
             with self.subTest(file=name):
