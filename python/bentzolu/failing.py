@@ -9,7 +9,8 @@ from fractions import Fraction
 from typing import Any, Hashable, List, NamedTuple, Optional, Tuple
 
 from .errors import FormatError
-from .texts import SAME, NodeNames, headed, number
+from .texts import SAME, headed, number
+from .typed import NodeNames
 
 
 class LinkFigures(NamedTuple):
