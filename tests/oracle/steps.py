@@ -48,6 +48,11 @@ def ways_of(text: str) -> List[Told]:
     return [(way.source, way.dest, way.fate, way.segments) for _, way in sorted(ways.items())]
 
 
+def in_any_order(words: List[str]) -> List[str]:
+    """The words of an event, where a link may be named by its ends in either order."""
+    return [words[0], *sorted(words[1:])] if words[0] in ("down", "up") else words
+
+
 def steps_fault(seed: int) -> Optional[str]:
     """What differs between the steps of a run by chance and its trace, its refused lines, and its script."""
     luck = random.Random(seed)
@@ -69,6 +74,7 @@ def steps_fault(seed: int) -> Optional[str]:
         return f"{seed}: {brief(no.encode())} in place of {brief(refused)}"
     for number, line in enumerate(lines, 1):
         own = [words[1:] for words in told if int(words[0]) == number]
-        if line != "drain" and [words[2:] if words[0] == "refused" else words[: len(line.split())] for words in own] != [line.split()]:
+        said = [in_any_order(words[2:] if words[0] == "refused" else words[: len(line.split())]) for words in own]
+        if line != "drain" and said != [in_any_order(line.split())]:
             return f"{seed}: {own} of {line}"
     return None
