@@ -230,5 +230,12 @@ fn figures_without_each_link(rt: HostRuntime) {
         "each links shortest 4 4 8 3 26 16/16 1/1 acyclic\na b 6 3 18 18/18 2/2 acyclic\na c 6 2 16 20/20 1/1 acyclic\nb c 6 2 16 20/20 1/1 acyclic\nc d disconnected\n",
         "",
     );
-    assert!(rt; prints(rt.alloc(), "stats --each links -", "a b\nb c\nc a d\n", each));
+    assert!(rt;
+        prints(
+            rt.alloc(),
+            "stats --each links -",
+            "a b\nb c\nc a d\n",
+            each
+        )
+    );
 }
