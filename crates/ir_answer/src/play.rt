@@ -108,7 +108,8 @@ fn trace_asked(
     asked: &Asked<Step>,
 ) -> Result<RunReply, AnswerStop>
     requires { asked.now.topology ≡ topology_of_graph asked.now.graph }
-    ensures { Gives (AnswersRunBy IsScriptRun asked.now.graph words.now (listing_in asked.now.script) asked.now.root) result }
+    ensures { Gives (AnswersRunBy IsScriptRun asked.now.graph words.now (listing_in asked.now.script) asked.now.root)
+        result }
 {
     let topology = &asked.topology;
     let Ok(opening) = opening_of(alloc, words, topology, asked.root) else {
@@ -156,7 +157,8 @@ fn steps_asked(
     asked: &Asked<Step>,
 ) -> Result<RunReply, AnswerStop>
     requires { asked.now.topology ≡ topology_of_graph asked.now.graph }
-    ensures { Gives (AnswersRunBy IsStepsRun asked.now.graph words.now (listing_in asked.now.script) asked.now.root) result }
+    ensures { Gives (AnswersRunBy IsStepsRun asked.now.graph words.now (listing_in asked.now.script) asked.now.root)
+        result }
 {
     let (graph, topology) = (&asked.graph, &asked.topology);
     let Ok(opening) = opening_of(alloc, words, topology, asked.root) else {

@@ -42,7 +42,8 @@ fn read_newest(
     requires node_in { node < nodes_of world.old.opening }
     ensures moves { OnOk result (Moves (after_read world.old.opening node) false world.old world.new) }
     ensures view { OnOk result (IsUpToDate world.new node) }
-    ensures lines { OnOk result (AddsText (names net.now.graph.now) net.now.topology.now line (after_read world.old.opening node)
+    ensures lines { OnOk result (AddsText (names net.now.graph.now) net.now.topology.now line
+        (after_read world.old.opening node)
         world.old (string_bytes text.old) (string_bytes text.new)) }
 {
     world.invariant();
@@ -72,7 +73,8 @@ fn try_act(
     ensures idle { IfOk result (λ acted. acted ≡ false → (world.new ≡ world.old) × IsHandEmpty world.old node) }
     ensures hand { OnOk result (IsHandEmpty world.new node) }
     ensures view { OnOk result (IsUpToDate world.new node) }
-    ensures lines { OnOk result (AddsText (names net.now.graph.now) net.now.topology.now line (after_act world.old.opening node)
+    ensures lines { OnOk result (AddsText (names net.now.graph.now) net.now.topology.now line
+        (after_act world.old.opening node)
         world.old (string_bytes text.old) (string_bytes text.new)) }
 {
     world.invariant();
@@ -97,7 +99,8 @@ fn try_way(
     ensures idle { IfOk result (λ acted. acted ≡ false → IsEmptyAt world.new node way) }
     ensures hand { OnOk result (IsHandEmpty world.new node) }
     ensures view { OnOk result (IsUpToDate world.new node) }
-    ensures lines { OnOk result (AddsText (names net.now.graph.now) net.now.topology.now line (after_way world.old.opening node way)
+    ensures lines { OnOk result (AddsText (names net.now.graph.now) net.now.topology.now line
+        (after_way world.old.opening node way)
         world.old (string_bytes text.old) (string_bytes text.new)) }
 {
     world.invariant();
@@ -148,7 +151,8 @@ fn visit(
     requires node_in { node < nodes_of world.old.opening }
     ensures moves { IfOk result (λ acted. Moves (after_visit world.old.opening node) acted world.old world.new) }
     ensures quiet { IfOk result (λ acted. acted ≡ false → IsQuietAt world.new node) }
-    ensures lines { OnOk result (AddsText (names net.now.graph.now) net.now.topology.now line (after_visit world.old.opening node)
+    ensures lines { OnOk result (AddsText (names net.now.graph.now) net.now.topology.now line
+        (after_visit world.old.opening node)
         world.old (string_bytes text.old) (string_bytes text.new)) }
 {
     read_newest(world, text, net, line, node)?;
@@ -169,7 +173,8 @@ fn round(
     requires history { HasHistory world.old }
     ensures moves { IfOk result (λ acted. Moves (after_round world.old.opening) acted world.old world.new) }
     ensures quiet { IfOk result (λ acted. acted ≡ false → IsQuiet world.new) }
-    ensures lines { OnOk result (AddsText (names net.now.graph.now) net.now.topology.now line (after_round world.old.opening)
+    ensures lines { OnOk result (AddsText (names net.now.graph.now) net.now.topology.now line
+        (after_round world.old.opening)
         world.old (string_bytes text.old) (string_bytes text.new)) }
 {
     let nodes = world.nodes();

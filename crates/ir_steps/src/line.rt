@@ -183,7 +183,8 @@ pub fn push_line(
     reply: Result<Reply, Refused>,
 ) -> Result<(), AllocError>
     ensures { OnOk result (string_bytes text.new ≡ string_bytes text.old
-        ++ event_line (names net.now.graph.now) net.now.topology.now line (λ id. slice_get world.now.records id) event reply) }
+        ++ event_line (names net.now.graph.now) net.now.topology.now line
+        (λ id. slice_get world.now.records id) event reply) }
 {
     write!(text, "{line}")?;
     push_told(text, net, world, event, reply)?;
