@@ -112,12 +112,12 @@ def measure(path, side, processes, running):
         start = time.monotonic()
         done = word("want", "--kind", kind, "--wait", "120")
         said = done.stdout.splitlines()[-1] if done.returncode == 0 else done.stderr.strip()[:300]
+        time.sleep(6)  # the floor follows
         lines = [json.loads(line) for line in (path / "controller.log").read_text().splitlines() if line.startswith("{")]
         at = {it["what"]: it["t"] for it in lines if it["t"] > start and it["what"] in ("begun", "compiled", "committed", "flipped", "floor")}
         times = {what: when - at["begun"] for what, when in at.items() if what != "floor"}
         took = at.get("floor", float("inf")) - GRACE - at["begun"]
         all_took.append(took)
-        time.sleep(6)
         carried = [sum(it[i] for it in sums) - was for i, was in enumerate(before)]
         print(f"{kind}: {said}: " + ", ".join(f"{what} {at:.2f}" for what, at in times.items()) + f", stamped by all {took:.2f} s; "
               f"{carried[0] / 1e6:.1f} MB to agents, {carried[1] / 1e6:.1f} MB from them", flush=True)
