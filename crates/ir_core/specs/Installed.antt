@@ -97,13 +97,13 @@ ControlsOn s x installs new more =
     (later : List Entry) × IsControlled s.opening log x later × Shows later new × AreBuiltFrom s.opening more (history.plans s.opening later))
 
 -- what the plan of the next epoch is built from, where the order of the newest plan is kept or is not
-pub record IsNext (s : World) (keeps : Bool) (kind : Kind) (root : ℕ) (i : Install) : Type 0 where
+pub record IsNext (s : World) (keeps : Bool) (of : Kind) (from : ℕ) (i : Install) : Type 0 where
   pub labels : i.labels ≡ s.opening.labels
-  pub kind : i.kind ≡ kind
-  pub root : i.root ≡ root
+  pub kind : i.kind ≡ of
+  pub root : i.root ≡ from
   pub count : length i.up.items ≡ links_of s.opening
   pub up : i.up.items ≡ take (links_of s.opening) (newest (sight_in s)).up
-  pub kept : items_of i.kept ≡ order_kept keeps kind (newest_plan s.opening (sight_in s)).order
+  pub kept : items_of i.kept ≡ order_kept keeps of (newest_plan s.opening (sight_in s)).order
 
 -- what the plan of an event is built from, if it installs one
 abbrev pub IsInstallOf : World → Event → Install → Type 0

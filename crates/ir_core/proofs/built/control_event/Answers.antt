@@ -8,10 +8,8 @@ use Rattle.ir_core.specs.Installed.{ControlsOn}
 use Rattle.ir_core.proofs.Controls.{of_installs}
 use Rattle.ir_core.proofs.built.control_event.Goals as goal
 
-pub returns-in-Install : goal.returns-in-Install
-returns-in-Install g c =
-    let is = c.in-Install.is in
-    subst (λ (e : Event). IfOk c.install_next.result (λ _. ControlsOn c.args.world.now (step.Event e) c.args.built.now.items c.install_next.new.world c.install_next.new.built.items)) (sym is) c.install_next.ensures
+pub install_next-requires : goal.install_next-requires
+install_next-requires g c = subst (λ (e : Event). IsInstallOf c.args.world.now e c.in_ok-next.next) (sym c.in-Install.is) c.in_ok-next.ensures
 
 pub returns-in-Retire : goal.returns-in-Retire
 returns-in-Retire g c =

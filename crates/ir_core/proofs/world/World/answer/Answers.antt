@@ -54,5 +54,11 @@ returns-in-Up-clause-same_opening g c = same_setting_or c.args.self.now c.mark-i
 pub returns-in-Install-clause-answer : goal.returns-in-Install-clause-answer
 returns-in-Install-clause-answer g c = rw c.in-Install.is c.install.ensures
 
+pub returns-in-Renumber-clause-answer : goal.returns-in-Renumber-clause-answer
+returns-in-Renumber-clause-answer g c = rw c.in-Renumber.is c.install-in-Renumber.ensures
+
+pub returns-in-Renumber-clause-same_opening : goal.returns-in-Renumber-clause-same_opening
+returns-in-Renumber-clause-same_opening g c = elim c.install-in-Renumber.ensures [ inl a ↦ same_setting c.args.self.now c.install-in-Renumber.new.self a.0 c.install-in-Renumber.result a.2 | inr a ↦ ap (λ (x : World). x.opening) a.2 ]
+
 pub returns-in-Install-clause-same_opening : goal.returns-in-Install-clause-same_opening
 returns-in-Install-clause-same_opening g c = elim c.install.ensures [ inl a ↦ same_setting c.args.self.now c.install.new.self a.0 c.install.result a.2 | inr a ↦ ap (λ (x : World). x.opening) a.2 ]
