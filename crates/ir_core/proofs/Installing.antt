@@ -1,4 +1,4 @@
-use Rattle.std.proofs.Common.{◌≡◌, ℕ, ◌+◌, ◌<◌, List, [], ◌∷◌, ◌++◌, length, take, slice_index_or, Option, Some, None, refl, sym, ap, ◌∙◌, subst, arith, Bool, inl, inr}
+use Rattle.std.proofs.Common.{◌≡◌, ℕ, ◌+◌, ◌-◌, ◌<◌, List, [], ◌∷◌, ◌++◌, length, take, slice_index_or, Option, Some, None, refl, sym, ap, ◌∙◌, subst, arith, Bool, inl, inr}
 use Rattle.std.specs.Prelude.{Ok, Err}
 use Rattle.ir_model.specs.declared.Kind.{Kind}
 use Rattle.ir_model.specs.Topology.{Topology, port_at, restrict}
@@ -12,17 +12,17 @@ use Rattle.ir_core.specs.Setting.{Setting, IsPlanFor, nodes_of, links_of, no_pla
 use Rattle.ir_core.specs.Board.{installed}
 use Rattle.ir_core.specs.Refusals.{install_refused}
 use Rattle.ir_core.specs.Entry.{Entry, DidInstall}
-use Rattle.ir_core.specs.Meaning.{newest_of, newest, topology_up, IsMade, InstallsUnless, Installs, install_refusal}
-use Rattle.ir_core.specs.World.{World, sight_in, after}
+use Rattle.ir_core.specs.Meaning.{newest_of, newest, newest_plan, topology_up, IsMade, InstallsUnless, Installs, install_refusal}
+use Rattle.ir_core.specs.World.{World, IsWorld, sight_in, after}
 use Rattle.ir_core.specs.Handled.{IsInstallAnswer}
 use Rattle.ir_core.proofs.Keeps.{first_same}
 use Rattle.ir_core.specs.Codes.{refused_of}
 use Rattle.ir_plan.specs.declared.error.PlanError.{PlanError}
 use Rattle.ir_plan.specs.declared.error.PlanError.TheVariants as plan
 use Rattle.ir_plan.specs.declared.tour.LabelOrder.{LabelOrder}
-use Rattle.ir_plan.specs.Building.{Labelling, RefusesPlan}
-use Rattle.ir_core.specs.Drafts.{labelling_by}
-use Rattle.ir_core.proofs.Labelled.{lacks_no_root}
+use Rattle.ir_plan.specs.Building.{Labelling, MayLabel, RefusesPlan}
+use Rattle.ir_core.specs.Drafts.{order_kept, labelling_by}
+use Rattle.ir_core.proofs.Labelled.{lacks_no_root, may_keep}
 
 -- an install that is refused before any plan is made
 pub refused_here : (s now : World) → s ≡ now → (labels : Labelling) (kind : Kind) (root : ℕ) (e : Refused) → install_refusal s.opening (sight_in s) root ≡ Some e → IsInstallAnswer now now labels kind root (Err e)
@@ -97,3 +97,19 @@ pub installed_world : (s : World) → 0 < length s.plans → s.opening.first ≡
 installed_world s some first epoch newest next t mid boards plans made same more pushed =
     let one : slice_index_or (s.plans ++ t ∷ []) 0 no_plan ≡ s.opening.first = first_same s.plans t no_plan some ∙ sym first in
     rw (pushed, more, same, made) (ap (λ (f : Plan). record s { opening = record s.opening { first = f }; boards = s.boards ++ installed newest epoch ∷ []; plans = s.plans ++ t ∷ [] }) one)
+
+-- the labels of the plan that an install asks for, from what the code read
+module _ (s now : World) (same : s ≡ now) (keeps : Bool) (kind : Kind) (root : ℕ) (kept : Option (List ℕ)) (is : kept ≡ order_kept keeps kind (newest_plan now.opening (sight_in now)).order) where
+  pub labels_asked : labelling_by s.opening.labels root kept ≡ labelling_by now.opening.labels root (order_kept keeps kind (newest_plan now.opening (sight_in now)).order)
+  labels_asked = ap (labelling_by s.opening.labels root) is ∙ ap (λ (x : World). labelling_by x.opening.labels root (order_kept keeps kind (newest_plan now.opening (sight_in now)).order)) same
+
+  pub answers_asked : (e : Refused) → IsInstallAnswer now now (labelling_by s.opening.labels root kept) kind root (Err e)
+      → IsInstallAnswer now now (labelling_by now.opening.labels root (order_kept keeps kind (newest_plan now.opening (sight_in now)).order)) kind root (Err e)
+  answers_asked e answer = subst (λ (l : Labelling). IsInstallAnswer now now l kind root (Err e)) labels_asked answer
+
+  pub may_ask : IsWorld s → MayLabel s.opening.topology kind (labelling_by s.opening.labels root kept)
+  may_ask ok =
+      let t = newest_plan s.opening (sight_in s) in
+      let each = ok.plans.each (length s.plans - 1) in
+      let here : kept ≡ order_kept keeps kind t.order = is ∙ ap (λ (x : World). order_kept keeps kind (newest_plan x.opening (sight_in x)).order) (sym same) in
+      subst (λ (o : Option (List ℕ)). MayLabel s.opening.topology kind (labelling_by s.opening.labels root o)) (sym here) (may_keep s.opening.topology t each.plan each.nodes s.opening.labels root keeps kind)
