@@ -88,7 +88,7 @@ change_taken s new e reply is same answers memory installs = (same, λ log k bui
 
 -- what an install comes to, by what its plan is built from
 module _ (s : World) (t : Sight) (same : t.plans ≡ s.plans) (keeps : Bool) (kind : Kind) (root : ℕ) (i : Install) (is : IsNext s keeps kind root i) where
-  given : Labelling
+  abbrev given : Labelling
   given = labelling_by s.opening.labels root (order_kept keeps kind (newest_plan s.opening t).order)
 
   labelled : given ≡ labelled_by i

@@ -500,7 +500,10 @@ impl World {
             Event::Take(node, way) => self.take(node, way),
             Event::Read(node, version) => self.read(node, version),
             Event::Act(node) => self.act(node),
-            Event::Install(kind, root) => self.install(crew, self.keeps, kind, root),
+            Event::Install(kind, root) => {
+                let keeps = self.keeps();
+                self.install(crew, keeps, kind, root)
+            }
             Event::Renumber(kind, root) => self.install(crew, false, kind, root),
             Event::Retire(floor) => self.retire(floor),
             Event::Down(link) => self.mark(link, false),
