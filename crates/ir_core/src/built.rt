@@ -235,7 +235,7 @@ fn install_next(
     next: Install,
     built: &mut Vec<Install>,
 ) -> Result<(), OpenError>
-    requires { IsInstallOf world.old event next }
+    requires next { IsInstallOf world.old event next }
     ensures { IfOk result (λ _. ControlsOn world.old (step.Event event) built.old.items world.new built.new.items) }
 {
     let reply = world.apply_by(crew, event);

@@ -1,15 +1,16 @@
-use Rattle.std.proofs.Common.{List, sym, subst}
+use Rattle.std.proofs.Common.{Bool, List, sym, subst}
 use Rattle.std.specs.Prelude.{IfOk}
 use Rattle.ir_core.specs.declared.event.Event.{Event}
 use Rattle.ir_core.specs.declared.event.Event.TheVariants as event
 use Rattle.ir_core.specs.declared.event.Step.TheVariants as step
 use Rattle.ir_core.specs.declared.built.Install.{Install}
-use Rattle.ir_core.specs.Installed.{ControlsOn}
+use Rattle.ir_core.specs.Installed.{ControlsOn, IsNext}
 use Rattle.ir_core.proofs.Controls.{of_installs}
 use Rattle.ir_core.proofs.built.control_event.Goals as goal
 
-pub install_next-requires : goal.install_next-requires
-install_next-requires g c = subst (λ (e : Event). IsInstallOf c.args.world.now e c.in_ok-next.next) (sym c.in-Install.is) c.in_ok-next.ensures
+pub install_next-requires-clause-next : goal.install_next-requires-clause-next
+install_next-requires-clause-next g c = λ κs le.
+    subst (λ (k : Bool). IsNext c.args.world.now k c.in-Install.kind c.in-Install.root c.in_ok-next-in-Install.next) c.keeps.ensures c.in_ok-next-in-Install.ensures
 
 pub returns-in-Retire : goal.returns-in-Retire
 returns-in-Retire g c =
