@@ -83,6 +83,7 @@ twins_built o p same order (i ∷ installs) (s ∷ ss) (t ∷ ts) h built = (
     built.0.0 ∙ ap (λ (net : Topology). length net.links) (sym same),
     subst (λ (net : Topology). IsMade (labelled_by i) i.kind (restrict i.up.items net) (Some s)) (sym same) (made_moved (restrict i.up.items p.topology) i.kind (labelled_by i) t s h.0 built.0.1),
     built.0.2 ∙ sym order,
+    built.0.3,
   ),
   twins_built o p same order installs ss ts h.1 built.1,
 )

@@ -4,6 +4,7 @@ use Rattle.std.specs.Prelude.{Result, Ok, Err, is_ok, IfOk}
 use Rattle.std.proofs.lemmas.Option.{slice_get_within}
 use Rattle.ir_model.specs.declared.Hop.{Hop}
 use Rattle.ir_model.specs.declared.Kind.{Kind}
+use Rattle.ir_model.specs.declared.Kind.TheVariants.{Tree}
 use Rattle.ir_model.specs.Topology.{Topology, IsTopology, is_up, restrict}
 use Rattle.ir_model.specs.Plan.{Plan}
 use Rattle.ir_model.proofs.Restrict.{rows_all}
@@ -26,7 +27,8 @@ use Rattle.ir_core.specs.Opened.{IsOpenedWith}
 use Rattle.ir_core.specs.Entry.{Entry, DidChange}
 use Rattle.ir_core.specs.History as history
 use Rattle.ir_plan.specs.Building.{Labelling}
-use Rattle.ir_core.specs.Drafts.{order_kept, labelling_by}
+use Rattle.ir_core.specs.Drafts.{items_of, order_kept, labelling_by}
+use Rattle.ir_core.proofs.Labelled.{tree_keeps}
 use Rattle.ir_core.specs.Meaning.{Sight, IsMade, ComesTo, Installs, InstallsUnless, unless, install_refusal, installs_made, topology_up, newest, newest_of, newest_plan, plan_of, sight_after, with_entry}
 use Rattle.ir_core.specs.World.{World, IsWorld, sight_in}
 use Rattle.ir_core.specs.Shows.{Shows, AnswersAfter, IsAnswered, reply_to}
@@ -128,11 +130,11 @@ install_controlled s log later (event.Act u) i is t = absurd is
 
 -- the links that are up, which its plan is over, and the order of all
 abbrev IsOverUp : World → Install → Type 0
-IsOverUp s i = (length i.up.items ≡ links_of s.opening) × (i.up.items ≡ take (links_of s.opening) (newest (sight_in s)).up) × (i.labels ≡ s.opening.labels)
+IsOverUp s i = (length i.up.items ≡ links_of s.opening) × (i.up.items ≡ take (links_of s.opening) (newest (sight_in s)).up) × (i.labels ≡ s.opening.labels) × (i.kind ≡ Tree → items_of i.kept ≡ None)
 
 over_up : (s : World) (e : Event) (i : Install) → IsInstallOf s e i → IsOverUp s i
-over_up s (event.Install kind root) i is = (is.count, is.up, is.labels)
-over_up s (event.Renumber kind root) i is = (is.count, is.up, is.labels)
+over_up s (event.Install kind root) i is = (is.count, is.up, is.labels, λ tree. is.kept ∙ tree_keeps s.opening.keeps kind (newest_plan s.opening (sight_in s)).order (sym is.kind ∙ tree))
+over_up s (event.Renumber kind root) i is = (is.count, is.up, is.labels, λ _. is.kept)
 over_up s (event.Retire f) i is = absurd is
 over_up s (event.Down l) i is = absurd is
 over_up s (event.Up l) i is = absurd is
@@ -186,7 +188,7 @@ module _ (s new : World) (e : Event) (i : Install) (is : IsInstallOf s e i) (rep
             shows,
             built_by log later installs a.0 (install_refusal s.opening (sight_after s.opening log) i.root) (sym (ap (λ (r : Result Reply Refused). is_ok r) a.2) ∙ did) a.3
                 (install_comes s (sight_after s.opening log) (sym k.plans) e i is a.0 a.1)
-                (λ t m. (over.0, subst (λ (xs : List Bool). IsMade (labelled_by i) i.kind (restrict xs s.opening.topology) (Some t)) (sym here) m, over.2)) built,
+                (λ t m. (over.0, subst (λ (xs : List Bool). IsMade (labelled_by i) i.kind (restrict xs s.opening.topology) (Some t)) (sym here) m, over.2, over.3)) built,
           )
       by_answer log k built later (inr a) shows = absurd (memory a.1)
 
@@ -204,11 +206,11 @@ restrict_all net ok few =
 
 -- the install of the first epoch
 pub first_built : (s : World) → IsWorld s → Shows [] s → (i : Install) → length i.up.items ≡ links_of s.opening → i.up.items ≡ take (links_of s.opening) (newest (sight_in s)).up →
-    i.labels ≡ s.opening.labels → IsMade (labelled_by i) i.kind s.opening.topology (Some s.opening.first) → AreBuiltFrom s.opening (i ∷ []) (s.opening.first ∷ [])
-first_built s ok k i marks is_up same_labels made =
+    i.labels ≡ s.opening.labels → items_of i.kept ≡ None → IsMade (labelled_by i) i.kind s.opening.topology (Some s.opening.first) → AreBuiltFrom s.opening (i ∷ []) (s.opening.first ∷ [])
+first_built s ok k i marks is_up same_labels none made =
     let here : i.up.items ≡ take (links_of s.opening) (replicate MAX_LINKS true) = is_up ∙ ap (λ (boards : List Board). take (links_of s.opening) (newest_of boards).up) k.boards in
     let whole = ap (λ (xs : List Bool). restrict xs s.opening.topology) here ∙ restrict_all s.opening.topology ok.opening.topology ok.opening.few_links in
-    ((marks, subst (λ (net : Topology). IsMade (labelled_by i) i.kind net (Some s.opening.first)) (sym whole) made, same_labels), tt)
+    ((marks, subst (λ (net : Topology). IsMade (labelled_by i) i.kind net (Some s.opening.first)) (sym whole) made, same_labels, λ _. none), tt)
 
 run_more : (o : Setting) (log mid later : List Entry) (steps : List Step) (s : Step) → IsControlRun o log steps mid → IsControlled o mid s later → IsControlRun o log (steps ++ s ∷ []) later
 run_more o log mid later [] s run next = (later, subst (λ (x : List Entry). IsControlled o x s later) run next, refl)

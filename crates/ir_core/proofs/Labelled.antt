@@ -90,7 +90,7 @@ twin_next p q r one other = record {
 -- ---- the order that a plan keeps
 
 -- the nodes of a plan by label are a list of all, for any network of so many
-listed : (net : Topology) (t : Plan) → IsPlan t → node_count t.topology ≡ node_count net → (kind : Kind) → kind ≢ Tree → MayLabel net kind (ByList t.order)
+pub listed : (net : Topology) (t : Plan) → IsPlan t → node_count t.topology ≡ node_count net → (kind : Kind) → kind ≢ Tree → MayLabel net kind (ByList t.order)
 listed net t is same kind other =
     let are = is.labels in (
       other,
@@ -116,6 +116,14 @@ may_keep net t is same labels root true Tree = tt
 may_keep net t is same labels root true Shortest = listed net t is same Shortest (λ e. cc e)
 may_keep net t is same labels root true Compact = listed net t is same Compact (λ e. cc e)
 may_keep net t is same labels root true (Landmark d) = listed net t is same (Landmark d) (λ e. cc e)
+
+-- a tree keeps none
+pub tree_keeps : (keeps : Bool) (kind : Kind) (order : List ℕ) → kind ≡ Tree → order_kept keeps kind order ≡ None
+tree_keeps false kind order is = refl
+tree_keeps true Tree order is = refl
+tree_keeps true Shortest order is = absurd (cc is)
+tree_keeps true Compact order is = absurd (cc is)
+tree_keeps true (Landmark d) order is = absurd (cc is)
 
 -- with a root that is a node there is a root, and else none is missing
 pub has_root : (net : Topology) (labels : LabelOrder) (root : ℕ) (kept : Option (List ℕ)) → root < node_count net → HasRoot net (labelling_by labels root kept)

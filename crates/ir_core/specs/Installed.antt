@@ -2,6 +2,7 @@
 use Rattle.std.specs.Prelude.{◌≡◌, ◌≢◌, ℕ, Bool, false, Some, None, Result, Err, List, [], ◌∷◌, length, take, All}
 use Rattle.std.specs.Global.{Vec}
 use Rattle.ir_model.specs.declared.Kind.{Kind}
+use Rattle.ir_model.specs.declared.Kind.TheVariants.{Tree}
 use Rattle.ir_model.specs.Topology.{restrict}
 use Rattle.ir_plan.specs.declared.tour.LabelOrder.TheVariants.{DepthFirst}
 use Rattle.ir_model.specs.Plan.{Plan}
@@ -56,10 +57,11 @@ abbrev pub labelled_by : Install → Labelling
 labelled_by i = labelling_by i.labels i.root (items_of i.kept)
 
 -- an epoch's plan is of this kind, over the links that are marked, labelled by the order that it kept, or else in the
--- order of all; there is a mark for each link
+-- order of all; there is a mark for each link, and a tree keeps no order
 abbrev pub IsBuiltFrom : Setting → Install → Plan → Type 0
 IsBuiltFrom setting i plan =
     (length i.up.items ≡ links_of setting) × IsMade (labelled_by i) i.kind (restrict i.up.items setting.topology) (Some plan) × (i.labels ≡ setting.labels)
+    × (i.kind ≡ Tree → items_of i.kept ≡ None)
 
 abbrev pub AreBuiltFrom : Setting → List Install → List Plan → Type 0
 AreBuiltFrom setting [] [] = Unit {0}
