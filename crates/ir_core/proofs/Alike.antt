@@ -32,7 +32,7 @@ use Rattle.ir_core.specs.Setting.{Setting, nodes_of, links_of, channel_of, into}
 use Rattle.ir_core.specs.Opened.{IsOpenedWith}
 use Rattle.ir_core.specs.Entry.{Entry, DidInject, DidLearn, DidTake, DidRead, DidAct, DidChange, DidInstall}
 use Rattle.ir_core.specs.History as history
-use Rattle.ir_core.specs.Meaning.{Sight, IsMade, ComesTo, Installs, InstallsUnless, unless, install_refusal, labelling_next, newest_plan, installs_made, topology_up, newest, newest_of, is_full, sight_after, with_entry, injects, learns, takes, takes_from, takes_first, reads, acts, acts_on, retires, marks}
+use Rattle.ir_core.specs.Meaning.{Sight, IsMade, ComesTo, Installs, InstallsUnless, unless, install_refusal, labelling_next, plan_of, installs_made, topology_up, newest, newest_of, is_full, sight_after, with_entry, injects, learns, takes, takes_from, takes_first, reads, acts, acts_on, retires, marks}
 use Rattle.ir_core.specs.World.{World}
 use Rattle.ir_core.specs.Shows.{IsAnswered}
 use Rattle.ir_core.specs.Run.{IsStepAnswered, IsRun}
@@ -69,6 +69,16 @@ twins-at [] (t ∷ ts) h k d e same = absurd h
 twins-at (s ∷ ss) [] h k d e same = absurd h
 twins-at (s ∷ ss) (t ∷ ts) h zero d e same = sym h.0.order
 twins-at (s ∷ ss) (t ∷ ts) h (suc k) d e same = twins-at ss ts h.1 k d e same
+
+-- by what the next plans are labelled
+pub next_same : (o p : Setting) → o.labels ≡ p.labels → o.keeps ≡ p.keeps → o.first.order ≡ p.first.order → (ss ts : List Plan) → AreTwins ss ts → (kind : Kind) (root : ℕ) →
+    labelling_by o.labels root (order_kept o.keeps kind (plan_of o ss (length ss)).order) ≡ labelling_by p.labels root (order_kept p.keeps kind (plan_of p ts (length ts)).order)
+next_same o p order keep first ss ts are kind root =
+    let newest : (plan_of o ss (length ss)).order ≡ (plan_of p ts (length ts)).order =
+    twins-at ss ts are (length ss - 1) o.first p.first first ∙ ap (λ (n : ℕ). (slice_index_or ts (n - 1) p.first).order) (twins-length ss ts are) in
+    ap (λ (xs : List ℕ). labelling_by o.labels root (order_kept o.keeps kind xs)) newest
+    ∙ ap (λ (k : Bool). labelling_by o.labels root (order_kept k kind (plan_of p ts (length ts)).order)) keep
+    ∙ ap (λ (n : LabelOrder). labelling_by n root (order_kept p.keeps kind (plan_of p ts (length ts)).order)) order
 
 twins_built : (o p : Setting) → o.topology ≡ p.topology → o.labels ≡ p.labels → (installs : List Install) (ss ts : List Plan) → AreTwins ss ts → AreBuiltFrom p installs ts → AreBuiltFrom o installs ss
 twins_built o p same order [] [] [] h built = tt
@@ -278,13 +288,7 @@ module _ (o p : Setting) (over : o.topology ≡ p.topology) (order : o.labels �
 
   -- by what the next plan is labelled
   labels_same : (log other : List Entry) → AreAlike o p log other → (kind : Kind) (root : ℕ) → labelling_next o (sight_after o log) kind root ≡ labelling_next p (sight_after p other) kind root
-  labels_same log other is kind root =
-      let newest : (newest_plan o (sight_after o log)).order ≡ (newest_plan p (sight_after p other)).order =
-      twins-at (history.plans o log) (history.plans p other) is.plans (length (history.plans o log) - 1) o.first p.first first
-      ∙ ap (λ (n : ℕ). (slice_index_or (history.plans p other) (n - 1) p.first).order) (twins-length (history.plans o log) (history.plans p other) is.plans) in
-      ap (λ (xs : List ℕ). labelling_by o.labels root (order_kept o.keeps kind xs)) newest
-      ∙ ap (λ (k : Bool). labelling_by o.labels root (order_kept k kind (newest_plan p (sight_after p other)).order)) keep
-      ∙ ap (λ (n : LabelOrder). labelling_by n root (order_kept p.keeps kind (newest_plan p (sight_after p other)).order)) order
+  labels_same log other is kind root = next_same o p order keep first (history.plans o log) (history.plans p other) is.plans kind root
 
   installed_alike : (log other : List Entry) → AreAlike o p log other → (labels : Labelling) (kind : Kind) (x y : Option Plan) → IsMade labels kind (topology_up o (sight_after o log)) x → IsMade labels kind (topology_up p (sight_after p other)) y →
       AreAlike o p (with_entry log (installs_made (sight_after o log) x)) (with_entry other (installs_made (sight_after p other) y))
@@ -371,7 +375,7 @@ module _ (o p : Setting) (over : o.topology ≡ p.topology) (order : o.labels �
       (All-tail (λ (r : Result Reply Refused). r ≢ Err NoMemory) reply replies memory) run.2 control.2
 
 -- the first epochs of two openings alike
-first_twins : (opening : Opening) (o p : Setting) → IsOpenedWith opening o → IsOpenedWith opening p → IsTwin p.first o.first
+pub first_twins : (opening : Opening) (o p : Setting) → IsOpenedWith opening o → IsOpenedWith opening p → IsTwin p.first o.first
 first_twins opening o p a b = twins opening.topology opening.kind (FromRoot opening.labels opening.root) p.first o.first b.first a.first
 
 -- the epochs of a run are built from the installs of its steps
