@@ -1,13 +1,12 @@
 -- The plans of a run leave out the links that are avoided when they are made.
 use Rattle.std.proofs.Common.{◌≡◌, ℕ, zero, suc, ◌+◌, ◌-◌, ◌<◌, Bool, true, false, cond, List, [], ◌∷◌, ◌++◌, length, Option, Some, None, slice_get, refl, sym, ap, subst, ◌∙◌, arith, ◌⊎◌, inl, inr}
-use Rattle.std.specs.Prelude.{Result, Ok, Err, ◌&&◌, ◌==◌, option_and_then}
+use Rattle.std.specs.Prelude.{Result, Ok, Err, ◌&&◌, ◌==◌, reverse}
 use Rattle.std.proofs.lemmas.Option.{none-some}
 use Rattle.std.proofs.lemmas.Bool.{eq-eqb, eqb-true}
-use Rattle.std.specs.List.{AllByRecursion}
 use Rattle.ir_model.specs.declared.Hop.{Hop}
 use Rattle.ir_model.specs.declared.Kind.{Kind}
 use Rattle.ir_model.specs.Topology.{Topology, port_at}
-use Rattle.ir_model.specs.Plan.{Plan, table_port}
+use Rattle.ir_model.specs.Plan.{Plan}
 use Rattle.ir_model.proofs.Restrict.{port_at-restrict}
 use Rattle.ir_core.specs.declared.board.Board.{Board}
 use Rattle.ir_core.specs.declared.event.Event.{Event}
@@ -18,19 +17,20 @@ use Rattle.ir_core.specs.declared.event.Reply.{Reply}
 use Rattle.ir_core.specs.declared.event.Refused.{Refused}
 use Rattle.ir_core.specs.declared.packet.Fate.{Fate}
 use Rattle.ir_core.specs.declared.packet.Fate.TheVariants.{Down}
-use Rattle.ir_core.specs.declared.packet.Restamp.{Restamp}
 use Rattle.ir_core.specs.Board.{is_used, is_heeded, is_link_up, links_used, installed}
-use Rattle.ir_core.specs.Record.{Record, segments_in, present, present_in, stamp_of}
+use Rattle.ir_core.specs.Record.{Record, present, stamp_of}
 use Rattle.ir_core.specs.Setting.{Setting, links_of}
 use Rattle.ir_core.specs.Entry.{Entry, DidInject, DidLearn, DidTake, DidRead, DidAct, DidChange, DidInstall}
 use Rattle.ir_core.specs.History as history
 use Rattle.ir_core.specs.Meaning.{IsMade, ComesTo, InstallsUnless, installs_made, topology_up, newest_of, sight_after, with_entry, install_refusal, injects, learns, takes, reads, acts}
-use Rattle.ir_core.specs.Sound.{IsSoundBy, IsPlanAmong, FateFits}
+use Rattle.ir_core.specs.Sound.{IsSoundBy, IsPlanAmong, FateFits, last_of}
 use Rattle.ir_core.specs.Shows.{IsAnswered}
 use Rattle.ir_core.specs.Run.{IsStepAnswered, IsRun}
 use Rattle.ir_core.specs.Drain.{after_rounds}
 use Rattle.ir_core.specs.Avoided.{made_by, AreDropsForUsedLinks, AreNoDropsForAvoided, IsSoInRuns}
 use Rattle.ir_core.proofs.Used.{used_there, used_at_first}
+use Rattle.ir_core.proofs.Walks.{port_of}
+use Rattle.ir_core.proofs.Segments.{of_present}
 use Rattle.ir_core.proofs.Alike.{IsPassed, SameEpochs, passed_keeps, kept_rounds, injects_passed, learns_passed, takes_passed, reads_passed, acts_passed, IsBoardChange, change_comes}
 
 -- each port of a plan is by a link that was up and heeded when the plan was made
@@ -121,35 +121,25 @@ module _ (o : Setting) where
   first_over : AreOverUsed o []
   first_over k t at u p hop port = used_at_first hop.link
 
--- a table leads on by a port
-port_taken : (t : Plan) (u : ℕ) (hop : Hop) (x : Option ℕ) → option_and_then (λ p. port_at t.topology u p) x ≡ Some hop → (p : ℕ) × (port_at t.topology u p ≡ Some hop)
-port_taken t u hop None e = absurd (none-some hop e)
-port_taken t u hop (Some p) e = (p, e)
-
--- the present segment is sound
-first_in : (So : Record → Type 0) (latest : List Restamp) (r : Record) → AllByRecursion So (segments_in latest r) → So (present_in latest r)
-first_in So [] r all = all.0
-first_in So (s ∷ older) r all = all.0
-
 dropped_over : (o : Setting) (log : List Entry) (l : ℕ) (g : Record) → IsSoundBy (IsPlanAmong (history.plans o log)) g → g.fate ≡ Down l → AreOverUsed o log → is_used (made_by g.epoch log) l ≡ true
 dropped_over o log l g sound down is =
     let fits = subst (λ (f : Fate). FateFits sound.plan g sound.sound.walk f) down sound.sound.fate in
     let leads = fits.1.1 in
-    let port = port_taken sound.plan _ leads.0 (table_port sound.plan _ g.dest) leads.1 in
+    let port = port_of sound.plan (last_of g.hops) g.dest leads.0 leads.1 in
     let epoch : g.epoch - 1 + 1 ≡ g.epoch = omega (arith, sound.of_epoch.0) in
     ap (λ (e : ℕ). is_used (made_by e log) l) (sym epoch) ∙ ap (λ (x : ℕ). is_used (made_by (g.epoch - 1 + 1) log) x) (sym leads.2)
     ∙ is (g.epoch - 1) sound.plan sound.of_epoch.1 _ port.0 leads.0 port.1
 
 pub for_used : IsSoInRuns AreDropsForUsedLinks
-for_used opening steps replies world opened played id l r at down =
+for_used steps replies world played id l r at down =
     let sound = played.sound id r at in
     let o = world.opening in
-    dropped_over o played.log l (present r) (first_in (IsSoundBy (IsPlanAmong (history.plans o played.log))) _ r sound.each) down
+    dropped_over o played.log l (present r) (of_present (IsSoundBy (IsPlanAmong (history.plans o played.log))) (reverse r.restamps) r sound.each) down
     (run_over o steps replies [] played.log played.run (first_over o))
 
 pub not_for_avoided : IsSoInRuns AreNoDropsForAvoided
-not_for_avoided opening steps replies world opened played id l r at avoided down =
-    never (is_link_up (made_by (stamp_of r) played.log) l) (is_heeded (made_by (stamp_of r) played.log) l) (for_used opening steps replies world opened played id l r at down) avoided
+not_for_avoided steps replies world played id l r at avoided down =
+    never (is_link_up (made_by (stamp_of r) played.log) l) (is_heeded (made_by (stamp_of r) played.log) l) (for_used steps replies world played id l r at down) avoided
   where
     never : (a b : Bool) → (a && b) ≡ true → b ≡ false → ⊥
     never true b e f = cc (e, f)

@@ -1,6 +1,5 @@
 -- Which links an epoch's plan was made over, and for which links packets are dropped.
 use Rattle.std.specs.Prelude.{◌≡◌, ◌≢◌, ℕ, true, false, Some, Result, List, [], ◌∷◌, if◌then◌else◌, ◌==◌}
-use Rattle.ir_core.specs.declared.opening.Opening.{Opening}
 use Rattle.ir_core.specs.declared.event.Step.{Step}
 use Rattle.ir_core.specs.declared.event.Reply.{Reply}
 use Rattle.ir_core.specs.declared.event.Refused.{Refused}
@@ -11,7 +10,6 @@ use Rattle.ir_core.specs.Record.{Record, stamp_of}
 use Rattle.ir_core.specs.Entry.{Entry, DidInstall}
 use Rattle.ir_core.specs.History as history
 use Rattle.ir_core.specs.Meaning.{newest_of}
-use Rattle.ir_core.specs.Opened.{IsOpenedWith}
 use Rattle.ir_core.specs.World.{World}
 use Rattle.ir_core.specs.Run.{IsPlayed}
 
@@ -32,5 +30,5 @@ AreNoDropsForAvoided log = (id l : ℕ) (r : Record) → history.packet id log �
 
 -- so it is in a run
 abbrev pub IsSoInRuns : (List Entry → Type 0) → Type 0
-IsSoInRuns So = (opening : Opening) (steps : List Step) (replies : List (Result Reply Refused)) (world : World)
-    → IsOpenedWith opening world.opening → (played : IsPlayed world.opening steps replies world) → So played.log
+IsSoInRuns So = (steps : List Step) (replies : List (Result Reply Refused)) (world : World)
+    → (played : IsPlayed world.opening steps replies world) → So played.log

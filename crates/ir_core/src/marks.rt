@@ -12,8 +12,8 @@ pub const WORD_LINKS: usize = 64;
 /// How many words mark all links.
 pub const MARK_WORDS: usize = MAX_LINKS / WORD_LINKS;
 
-/// A mark for each link number, up or down, in words of 64. In the marks of the links that are heeded, one that is
-/// avoided is down.
+/// A mark for each link number, up or down, in words of 64. Of the links that are heeded, one that
+/// is avoided is marked down.
 #[derive(Clone, Copy, Debug, PartialEq, Eq)]
 pub struct Marks {
     words: [u64; MARK_WORDS],
