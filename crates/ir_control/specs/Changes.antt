@@ -1,5 +1,5 @@
 -- What a controller refuses, and what it changes.
-use Rattle.std.specs.Prelude.{◌≡◌, ◌⊎◌, ℕ, ◌+◌, Bool, List, ◌∷◌, ◌++◌, [], length, take, Option, Some, None, Result, MatchResult}
+use Rattle.std.specs.Prelude.{◌≡◌, ◌⊎◌, ℕ, ◌+◌, Bool, List, ◌∷◌, ◌++◌, [], length, Option, Some, None, Result, MatchResult}
 use Rattle.std.specs.Arc.{arc_value}
 use Rattle.ir_model.specs.declared.Kind.{Kind}
 use Rattle.ir_model.specs.Topology.{Topology, node_count, restrict}
@@ -8,7 +8,8 @@ use Rattle.ir_model.specs.Walk.{IsDisconnected}
 use Rattle.ir_core.specs.declared.event.Refused.{Refused}
 use Rattle.ir_core.specs.declared.event.Refused.TheVariants.{Disconnected, NoMemory, Used}
 use Rattle.ir_core.specs.declared.board.Board.{Board}
-use Rattle.ir_core.specs.Refusals.{install_refused, retire_refused, mark_refused}
+use Rattle.ir_core.specs.Refusals.{install_refused, retire_refused, mark_refused, heed_refused}
+use Rattle.ir_core.specs.Board.{links_used}
 use Rattle.ir_plan.specs.Building.{Labelling}
 use Rattle.ir_core.specs.Drafts.{order_kept, labelling_by}
 use Rattle.ir_core.specs.Meaning.{IsMade}
@@ -24,7 +25,7 @@ use Rattle.ir_epochs.specs.Handles.{published, writer_board, reader_board, told,
 use Rattle.ir_worker.specs.declared.node.Node.{Node}
 use Rattle.ir_control.specs.declared.controller.Controller.{Controller}
 
--- the nodes by label of the plan that a stamp knows
+-- the nodes by label in the plan that a stamp knows
 abbrev pub order_of : Option Stamp → List ℕ
 order_of None = []
 order_of (Some s) = (knows s).order
@@ -45,12 +46,16 @@ module _ {R : Type 0} where
   abbrev pub IsReadBy : Controller R → Node → Type 0
   IsReadBy c n = reader_board n.reader ≡ writer_board c.writer
 
-  -- why it does not retire the epochs below a floor, and why it does not mark a link
+  -- why it does not retire the epochs below a floor, why it does not mark a link, and why its installs do not heed or
+  -- avoid one
   abbrev pub retiring_refused : Controller R → ℕ → Option Refused
   retiring_refused c floor = retire_refused (newest_board c) floor
 
   abbrev pub marking_refused : Controller R → ℕ → Bool → Option Refused
   marking_refused c link up = mark_refused (length (knows c.opening).topology.links) (newest_board c) link up
+
+  abbrev pub heeding_refused : Controller R → ℕ → Bool → Option Refused
+  heeding_refused c link heed = heed_refused (length (knows c.opening).topology.links) (newest_board c) link heed
 
   -- it is the same controller, which has published this one change more; the receipt says so
   pub record Publishes (before after : Controller R) (c : Change) (t : Receipt) : Type 0 where
@@ -78,9 +83,9 @@ module _ {R : Type 0} where
       (λ t. (refused ≡ None) × Publishes before after c t)
       (λ e. IsRefusedBy e refused × PublishesNothing before after)
 
-  -- the network over the links that are up in the controller's board
+  -- the network over the links that are up and heeded in the controller's board
   abbrev pub topology_up : Controller R → Topology
-  topology_up c = restrict (take (length (knows c.opening).topology.links) (board_of (published c.writer)).up) (knows c.opening).topology
+  topology_up c = restrict (links_used (board_of (published c.writer)) (length (knows c.opening).topology.links)) (knows c.opening).topology
 
   abbrev pub install_refusal : Controller R → ℕ → Option Refused
   install_refusal c root = install_refused (node_count (knows c.opening).topology) c.used (board_of (published c.writer)) root
@@ -89,7 +94,7 @@ module _ {R : Type 0} where
   IsInstallRefusedBy c error (Some e) = error ≡ e
   IsInstallRefusedBy c error None = ((error ≡ Disconnected) × IsDisconnected (topology_up c)) ⊎ ((error ≡ NoMemory) ⊎ (error ≡ Used))
 
-  -- the nodes by label of the plan of the current epoch
+  -- the nodes by label in the current epoch
   abbrev pub current_order : Controller R → List ℕ
   current_order c = order_of (installed_stamp (published c.writer))
 
@@ -97,14 +102,14 @@ module _ {R : Type 0} where
   abbrev pub labelling_next : Controller R → Bool → Kind → ℕ → Labelling
   labelling_next c keeps kind root = labelling_by c.labels root (order_kept keeps kind (current_order c))
 
-  -- a plan of this kind over the links that are up, labelled so; or why there is none
+  -- a plan of this kind over the links that are up and heeded, labelled so; or why there is none
   abbrev pub IsPlanAnswer : Bool → Kind → ℕ → Controller R → Result Plan Refused → Type 0
   IsPlanAnswer keeps kind root c answer = MatchResult answer
       (λ plan. IsMade (labelling_next c keeps kind root) kind (topology_up c) (Some plan))
       (λ e. ((e ≡ Disconnected) × IsDisconnected (topology_up c)) ⊎ (e ≡ NoMemory))
 
-  -- The stamp of the next cell, which knows a plan of this kind over the links that were up, labelled in the current
-  -- epoch's order where that is kept, else in the controller's from the root, was installed.
+  -- The stamp of the next cell, which knows a plan of this kind over the links that were up and heeded, labelled as the
+  -- current epoch where its order is kept, else in the controller's order from the root, was installed.
   pub record Installs (keeps : Bool) (kind : Kind) (root : ℕ) (before after : Controller R) (t : Receipt) : Type 0 where
     pub allowed : install_refusal before root ≡ None
     pub stamp : Stamp

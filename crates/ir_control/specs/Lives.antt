@@ -1,5 +1,5 @@
 -- What a live run answers.
-use Rattle.std.specs.Prelude.{◌≡◌, ◌≢◌, ℕ, ◌<◌, true, List, ◌∷◌, All, Some, length, replicate, slice_get, slice_index_or}
+use Rattle.std.specs.Prelude.{◌≡◌, ◌≢◌, ℕ, ◌<◌, List, ◌∷◌, All, Some, length, slice_get, slice_index_or}
 use mathlib.Core.List.{IsPrefix}
 use Rattle.ir_model.specs.Topology.{node_count}
 use Rattle.ir_core.specs.Sound.{IsSoundRecord}
@@ -28,7 +28,7 @@ use Rattle.ir_control.specs.declared.live.Live.{Live}
 use Rattle.ir_control.specs.declared.live.LiveError.{LiveError}
 use Rattle.ir_control.specs.declared.live.LiveError.TheVariants.{Spent, NoThread, NoMemory, TooManyReaders}
 use Rattle.ir_control.specs.Answers.{CommandAnswer, refusals_from, accepted_from}
-use Rattle.ir_control.specs.Planned.{Planned, planned, stamps_in, IsPlanIn, AreAsked}
+use Rattle.ir_control.specs.Planned.{Planned, planned, stamps_in, IsPlanIn, all_marked, AreAsked}
 use Rattle.ir_control.specs.Carried.{AreCarriedOut}
 
 -- the same nodes, in the same order
@@ -105,11 +105,11 @@ pub record AreSoundByPlans (net : Net) (commands : List Command) (answers : List
   pub plans : List Planned
   pub plans_are :
       plans ≡ record { epoch = 1; plan = first_plan net } ∷ planned (stamps_in answers)
-  -- its plan is of the kind that was asked for, over the links that were up then, labelled in
-  -- the net's order from the root, or in that of the epoch before, where the net keeps it; at
-  -- first all links are up
-  pub asked : AreAsked net.labels net.keeps net.topology (replicate (length net.topology.links) true)
-      (first_plan net).order 1 commands answers
+  -- its plan is of the kind that was asked for, over the links that were up and heeded then,
+  -- labelled in the net's order from the root, or as the epoch before, where the net keeps that; at
+  -- first all links are up and heeded
+  pub asked : AreAsked net.labels net.keeps net.topology
+      (all_marked (length net.topology.links) (first_plan net).order) 1 commands answers
   pub sound : All (λ r. ∥ IsSoundRecord net.restamps (IsPlanIn plans) r ∥₁) records
 
 -- A live run of a net. The words record refused pushes and pops, looks at the board, and after how

@@ -20,8 +20,9 @@ use Rattle.ir_core.specs.declared.event.Step.TheVariants as step
 use Rattle.ir_core.specs.declared.event.Reply.{Reply}
 use Rattle.ir_core.specs.declared.event.Refused.{Refused}
 use Rattle.ir_core.specs.declared.event.Refused.TheVariants.{NoMemory, Disconnected}
-use Rattle.ir_core.specs.Board.{marked, retired_below}
-use Rattle.ir_core.specs.Refusals.{retire_refused, mark_refused}
+use Rattle.ir_core.specs.Marks.{both}
+use Rattle.ir_core.specs.Board.{links_used, marked, heeding, retired_below}
+use Rattle.ir_core.specs.Refusals.{retire_refused, mark_refused, heed_refused}
 use Rattle.ir_core.specs.Setting.{Setting, links_of}
 use Rattle.ir_core.specs.Opened.{IsOpenedWith}
 use Rattle.ir_core.specs.Entry.{Entry, DidChange}
@@ -56,6 +57,12 @@ change_plans o log (event.Down l) is wanted comes =
 change_plans o log (event.Up l) is wanted comes =
     let b = newest (sight_after o log) in
     ap (λ (w : Result Entry Refused). history.plans o (with_entry log w)) comes ∙ plans_kept o log (mark_refused (links_of o) b l true) (marked b l true)
+change_plans o log (event.Avoid l) is wanted comes =
+    let b = newest (sight_after o log) in
+    ap (λ (w : Result Entry Refused). history.plans o (with_entry log w)) comes ∙ plans_kept o log (heed_refused (links_of o) b l false) (heeding b l false)
+change_plans o log (event.Heed l) is wanted comes =
+    let b = newest (sight_after o log) in
+    ap (λ (w : Result Entry Refused). history.plans o (with_entry log w)) comes ∙ plans_kept o log (heed_refused (links_of o) b l true) (heeding b l true)
 change_plans o log (event.Install kind root) is wanted comes = absurd is
 change_plans o log (event.Renumber kind root) is wanted comes = absurd is
 change_plans o log (event.Inject source dest) is wanted comes = absurd is
@@ -68,6 +75,8 @@ change_controlled : (o : Setting) (log later : List Entry) (e : Event) → IsPla
 change_controlled o log later (event.Retire f) is t = t
 change_controlled o log later (event.Down l) is t = t
 change_controlled o log later (event.Up l) is t = t
+change_controlled o log later (event.Avoid l) is t = t
+change_controlled o log later (event.Heed l) is t = t
 change_controlled o log later (event.Install kind root) is t = absurd is
 change_controlled o log later (event.Renumber kind root) is t = absurd is
 change_controlled o log later (event.Inject source dest) is t = absurd is
@@ -110,6 +119,8 @@ install_comes s t same (event.Renumber kind root) i is wanted comes = next_made 
 install_comes s t same (event.Retire f) i is wanted comes = absurd is
 install_comes s t same (event.Down l) i is wanted comes = absurd is
 install_comes s t same (event.Up l) i is wanted comes = absurd is
+install_comes s t same (event.Avoid l) i is wanted comes = absurd is
+install_comes s t same (event.Heed l) i is wanted comes = absurd is
 install_comes s t same (event.Inject source dest) i is wanted comes = absurd is
 install_comes s t same (event.Learn e) i is wanted comes = absurd is
 install_comes s t same (event.Take u way) i is wanted comes = absurd is
@@ -122,6 +133,8 @@ install_controlled s log later (event.Renumber kind root) i is t = t
 install_controlled s log later (event.Retire f) i is t = absurd is
 install_controlled s log later (event.Down l) i is t = absurd is
 install_controlled s log later (event.Up l) i is t = absurd is
+install_controlled s log later (event.Avoid l) i is t = absurd is
+install_controlled s log later (event.Heed l) i is t = absurd is
 install_controlled s log later (event.Inject source dest) i is t = absurd is
 install_controlled s log later (event.Learn e) i is t = absurd is
 install_controlled s log later (event.Take u way) i is t = absurd is
@@ -130,7 +143,7 @@ install_controlled s log later (event.Act u) i is t = absurd is
 
 -- the links that are up, which its plan is over, and the order of all
 abbrev IsOverUp : World → Install → Type 0
-IsOverUp s i = (length i.up.items ≡ links_of s.opening) × (i.up.items ≡ take (links_of s.opening) (newest (sight_in s)).up) × (i.labels ≡ s.opening.labels) × (i.kind ≡ Tree → items_of i.kept ≡ None)
+IsOverUp s i = (length i.up.items ≡ links_of s.opening) × (i.up.items ≡ links_used (newest (sight_in s)) (links_of s.opening)) × (i.labels ≡ s.opening.labels) × (i.kind ≡ Tree → items_of i.kept ≡ None)
 
 over_up : (s : World) (e : Event) (i : Install) → IsInstallOf s e i → IsOverUp s i
 over_up s (event.Install kind root) i is = (is.count, is.up, is.labels, λ tree. is.kept ∙ tree_keeps s.opening.keeps kind (newest_plan s.opening (sight_in s)).order (sym is.kind ∙ tree))
@@ -138,6 +151,8 @@ over_up s (event.Renumber kind root) i is = (is.count, is.up, is.labels, λ _. i
 over_up s (event.Retire f) i is = absurd is
 over_up s (event.Down l) i is = absurd is
 over_up s (event.Up l) i is = absurd is
+over_up s (event.Avoid l) i is = absurd is
+over_up s (event.Heed l) i is = absurd is
 over_up s (event.Inject source dest) i is = absurd is
 over_up s (event.Learn e) i is = absurd is
 over_up s (event.Take u way) i is = absurd is
@@ -182,7 +197,7 @@ module _ (s new : World) (e : Event) (i : Install) (is : IsInstallOf s e i) (rep
           (x : List Entry) × IsControlled s.opening log (step.Event e) x × Shows x new × AreBuiltFrom s.opening (installs ++ i ∷ []) (history.plans s.opening x)
       by_answer log k built later (inl a) shows =
           let over = over_up s e i is in
-          let here : i.up.items ≡ take (links_of s.opening) (newest (sight_after s.opening log)).up = over.1 ∙ ap (λ (boards : List Board). take (links_of s.opening) (newest_of boards).up) k.boards in (
+          let here : i.up.items ≡ links_used (newest (sight_after s.opening log)) (links_of s.opening) = over.1 ∙ ap (λ (boards : List Board). links_used (newest_of boards) (links_of s.opening)) k.boards in (
             later,
             install_controlled s log later e i is (a.0, a.1, a.3),
             shows,
@@ -192,23 +207,26 @@ module _ (s new : World) (e : Event) (i : Install) (is : IsInstallOf s e i) (rep
           )
       by_answer log k built later (inr a) shows = absurd (memory a.1)
 
--- with all links up a network is as it was
-all_up : (n m l : ℕ) → l < n → n ≤ m → slice_index_or (take n (replicate m true)) l false ≡ true
+-- with all links up and heeded a network is as it was
+abbrev all_used : ℕ → ℕ → List Bool
+all_used n m = both (take n (replicate m true)) (take n (replicate m true))
+
+all_up : (n m l : ℕ) → l < n → n ≤ m → slice_index_or (all_used n m) l false ≡ true
 all_up zero m l lt le = absurd (omega arith)
 all_up (suc n) zero l lt le = absurd (omega arith)
 all_up (suc n) (suc m) zero lt le = refl
 all_up (suc n) (suc m) (suc l) lt le = all_up n m l (omega arith) (omega arith)
 
-restrict_all : (net : Topology) → IsTopology net → length net.links ≤ MAX_LINKS → restrict (take (length net.links) (replicate MAX_LINKS true)) net ≡ net
+restrict_all : (net : Topology) → IsTopology net → length net.links ≤ MAX_LINKS → restrict (all_used (length net.links) MAX_LINKS) net ≡ net
 restrict_all net ok few =
     ap (λ (ports : List (List Hop)). record { links = net.links; ports = ports })
-    (rows_all (is_up (take (length net.links) (replicate MAX_LINKS true))) net.ports (λ u k x e. (let port = ok.ports u k x e in all_up (length net.links) MAX_LINKS x.link (slice_get_within net.links x.link port.0 port.1) few)))
+    (rows_all (is_up (all_used (length net.links) MAX_LINKS)) net.ports (λ u k x e. (let port = ok.ports u k x e in all_up (length net.links) MAX_LINKS x.link (slice_get_within net.links x.link port.0 port.1) few)))
 
 -- the install of the first epoch
-pub first_built : (s : World) → IsWorld s → Shows [] s → (i : Install) → length i.up.items ≡ links_of s.opening → i.up.items ≡ take (links_of s.opening) (newest (sight_in s)).up →
+pub first_built : (s : World) → IsWorld s → Shows [] s → (i : Install) → length i.up.items ≡ links_of s.opening → i.up.items ≡ links_used (newest (sight_in s)) (links_of s.opening) →
     i.labels ≡ s.opening.labels → items_of i.kept ≡ None → IsMade (labelled_by i) i.kind s.opening.topology (Some s.opening.first) → AreBuiltFrom s.opening (i ∷ []) (s.opening.first ∷ [])
 first_built s ok k i marks is_up same_labels none made =
-    let here : i.up.items ≡ take (links_of s.opening) (replicate MAX_LINKS true) = is_up ∙ ap (λ (boards : List Board). take (links_of s.opening) (newest_of boards).up) k.boards in
+    let here : i.up.items ≡ all_used (links_of s.opening) MAX_LINKS = is_up ∙ ap (λ (boards : List Board). links_used (newest_of boards) (links_of s.opening)) k.boards in
     let whole = ap (λ (xs : List Bool). restrict xs s.opening.topology) here ∙ restrict_all s.opening.topology ok.opening.topology ok.opening.few_links in
     ((marks, subst (λ (net : Topology). IsMade (labelled_by i) i.kind net (Some s.opening.first)) (sym whole) made, same_labels, λ _. none), tt)
 

@@ -1,4 +1,4 @@
-use Rattle.std.proofs.Common.{◌≡◌, ℕ, ◌+◌, ◌-◌, ◌<◌, List, [], ◌∷◌, ◌++◌, length, take, slice_index_or, Option, Some, None, refl, sym, ap, ◌∙◌, subst, arith, Bool, inl, inr}
+use Rattle.std.proofs.Common.{◌≡◌, ℕ, ◌+◌, ◌-◌, ◌<◌, List, [], ◌∷◌, ◌++◌, length, slice_index_or, Option, Some, None, refl, sym, ap, ◌∙◌, subst, arith, Bool, inl, inr}
 use Rattle.std.specs.Prelude.{Ok, Err}
 use Rattle.ir_model.specs.declared.Kind.{Kind}
 use Rattle.ir_model.specs.Topology.{Topology, port_at, restrict}
@@ -9,7 +9,7 @@ use Rattle.ir_core.specs.declared.event.Reply.TheVariants.{Installed}
 use Rattle.ir_core.specs.declared.event.Refused.{Refused}
 use Rattle.ir_core.specs.declared.event.Refused.TheVariants.{Disconnected, NoMemory}
 use Rattle.ir_core.specs.Setting.{Setting, IsPlanFor, nodes_of, links_of, no_plan}
-use Rattle.ir_core.specs.Board.{installed}
+use Rattle.ir_core.specs.Board.{installed, links_used}
 use Rattle.ir_core.specs.Refusals.{install_refused}
 use Rattle.ir_core.specs.Entry.{Entry, DidInstall}
 use Rattle.ir_core.specs.Meaning.{newest_of, newest, newest_plan, topology_up, IsMade, InstallsUnless, Installs, install_refusal}
@@ -35,9 +35,9 @@ pub asked_here : (s : World) (nodes epochs : ℕ) (b : Board) (root : ℕ) (x : 
     install_refusal s.opening (sight_in s) root ≡ x
 asked_here s nodes epochs b root x n e is told = sym (told ∙ rw (n, e, is) refl)
 
--- the network over the links that are up in a board
+-- the network over the links that are up and heeded in a board
 abbrev pub up_in : Setting → Board → Topology
-up_in o b = restrict (take (links_of o) b.up) o.topology
+up_in o b = restrict (links_used b (links_of o)) o.topology
 
 -- an install for which memory is wanted
 pub memory_here : (s now : World) → s ≡ now → (labels : Labelling) (kind : Kind) (root : ℕ) → install_refusal s.opening (sight_in s) root ≡ None → IsInstallAnswer now now labels kind root (Err NoMemory)
@@ -57,9 +57,9 @@ pub plan_refused_here : (s now : World) → s ≡ now → (kind : Kind) (root : 
     RefusesPlan (up_in s.opening b) (labelling_by order root kept) e → IsInstallAnswer now now (labelling_by order root kept) kind root (Err (refused_of e))
 plan_refused_here s now same kind root b is none within order kept plan.Disconnected told = disconnected_here s now same (labelling_by order root kept) kind root b is none told.2
 plan_refused_here s now same kind root b is none within order kept plan.NoMemory told = memory_here s now same (labelling_by order root kept) kind root none
-plan_refused_here s now same kind root b is none within order kept plan.Empty told = absurd (let count = node_count-restrict (take (links_of s.opening) b.up) s.opening.topology in omega (arith, count, told, within))
+plan_refused_here s now same kind root b is none within order kept plan.Empty told = absurd (let count = node_count-restrict (links_used b (links_of s.opening)) s.opening.topology in omega (arith, count, told, within))
 plan_refused_here s now same kind root b is none within order kept plan.NoNode told =
-    absurd (lacks_no_root (up_in s.opening b) order root kept (let count = node_count-restrict (take (links_of s.opening) b.up) s.opening.topology in omega (arith, count, within)) told.1)
+    absurd (lacks_no_root (up_in s.opening b) order root kept (let count = node_count-restrict (links_used b (links_of s.opening)) s.opening.topology in omega (arith, count, within)) told.1)
 
 -- a plan that was made over the links that are up is a plan for the network
 pub made_plan : (o : Setting) (labels : Labelling) (kind : Kind) (up : List Bool) (t : Plan) → IsMade labels kind (restrict up o.topology) (Some t) → IsPlanFor o t

@@ -1,6 +1,7 @@
 pub mod Lists
 pub mod Labelled
 pub mod MarkWords
+pub mod Used
 pub mod Walks
 pub mod Lacking
 pub mod Channels
@@ -18,6 +19,7 @@ pub mod Theorem
 pub mod Plains
 pub mod Controls
 pub mod Alike
+pub mod Avoids
 pub mod Hops
 pub mod Opens
 pub mod Runs

@@ -1,5 +1,5 @@
 -- What the epochs of a list of steps are built from.
-use Rattle.std.specs.Prelude.{◌≡◌, ◌≢◌, ℕ, Bool, false, Some, None, Result, Err, List, [], ◌∷◌, length, take, All}
+use Rattle.std.specs.Prelude.{◌≡◌, ◌≢◌, ℕ, Bool, false, Some, None, Result, Err, List, [], ◌∷◌, length, All}
 use Rattle.std.specs.Global.{Vec}
 use Rattle.ir_model.specs.declared.Kind.{Kind}
 use Rattle.ir_model.specs.declared.Kind.TheVariants.{Tree}
@@ -18,6 +18,7 @@ use Rattle.ir_core.specs.declared.opening.Opening.{Opening}
 use Rattle.ir_core.specs.declared.built.Install.{Install}
 use Rattle.ir_core.specs.Setting.{Setting, links_of}
 use Rattle.ir_core.specs.Opened.{IsOpenedWith}
+use Rattle.ir_core.specs.Board.{links_used}
 use Rattle.ir_core.specs.Drafts.{items_of, order_kept, labelling_by}
 use Rattle.ir_core.specs.Entry.{Entry}
 use Rattle.ir_core.specs.History as history
@@ -37,6 +38,8 @@ IsControlled setting log (step.Event (event.Renumber kind root)) later = IsTaken
 IsControlled setting log (step.Event (event.Retire f)) later = IsTaken setting log (event.Retire f) later
 IsControlled setting log (step.Event (event.Down l)) later = IsTaken setting log (event.Down l) later
 IsControlled setting log (step.Event (event.Up l)) later = IsTaken setting log (event.Up l) later
+IsControlled setting log (step.Event (event.Avoid l)) later = IsTaken setting log (event.Avoid l) later
+IsControlled setting log (step.Event (event.Heed l)) later = IsTaken setting log (event.Heed l) later
 IsControlled setting log (step.Event (event.Inject source dest)) later = later ≡ log
 IsControlled setting log (step.Event (event.Learn e)) later = later ≡ log
 IsControlled setting log (step.Event (event.Take u way)) later = later ≡ log
@@ -104,7 +107,7 @@ pub record IsNext (s : World) (keeps : Bool) (of : Kind) (from : ℕ) (i : Insta
   pub kind : i.kind ≡ of
   pub root : i.root ≡ from
   pub count : length i.up.items ≡ links_of s.opening
-  pub up : i.up.items ≡ take (links_of s.opening) (newest (sight_in s)).up
+  pub up : i.up.items ≡ links_used (newest (sight_in s)) (links_of s.opening)
   pub kept : items_of i.kept ≡ order_kept keeps of (newest_plan s.opening (sight_in s)).order
 
 -- what the plan of an event is built from, if it installs one
@@ -118,6 +121,8 @@ abbrev pub IsPlainChange : Event → Type 0
 IsPlainChange (event.Retire f) = Unit {0}
 IsPlainChange (event.Down l) = Unit {0}
 IsPlainChange (event.Up l) = Unit {0}
+IsPlainChange (event.Avoid l) = Unit {0}
+IsPlainChange (event.Heed l) = Unit {0}
 IsPlainChange (event.Install kind root) = ⊥
 IsPlainChange (event.Renumber kind root) = ⊥
 IsPlainChange (event.Inject source dest) = ⊥

@@ -16,8 +16,8 @@ use ir_plan::{Alone, Crew, LabelOrder, Plan};
 use std::alloc::Global;
 
 /// What an epoch's plan was built from: the order in which it is labelled, its kind and root, and for each link of the
-/// network whether it was up. Where it kept the order of the epoch before, these are the nodes by label; its root is
-/// then the first of them.
+/// network whether it was used: it was up and heeded. Where it kept the order of the epoch before, these are the nodes
+/// by label; its root is then the first of them.
 #[derive(Drop)]
 pub struct Install {
     pub labels: LabelOrder,
@@ -123,7 +123,7 @@ fn first_install(
     ensures refused { IfErr result (λ e. e ≡ OpenError.NoMemory) }
 {
     world.invariant();
-    let Ok(up) = world.marks(alloc) else {
+    let Ok(up) = world.used(alloc) else {
         return Err(OpenError::NoMemory);
     };
     let Ok(mut built) = Vec::with_capacity(alloc, 1) else {
@@ -180,6 +180,8 @@ fn control_event(
         Event::Retire(floor) => change(crew, world, Event::Retire(floor)),
         Event::Down(link) => change(crew, world, Event::Down(link)),
         Event::Up(link) => change(crew, world, Event::Up(link)),
+        Event::Avoid(link) => change(crew, world, Event::Avoid(link)),
+        Event::Heed(link) => change(crew, world, Event::Heed(link)),
         Event::Inject(_, _)
         | Event::Learn(_)
         | Event::Take(_, _)
@@ -201,7 +203,7 @@ fn change(crew: &impl Crew, world: &mut World, event: Event) -> Result<(), OpenE
     }
 }
 
-/// What the next epoch's plan is built from, over the links that are up.
+/// What the next epoch's plan is built from, over the links that are used.
 fn next_install(
     alloc: Global,
     world: &World,
@@ -211,7 +213,7 @@ fn next_install(
 ) -> Result<Install, OpenError>
     ensures { IfOk result (IsNext world.now keeps kind root) }
 {
-    let Ok(up) = world.marks(alloc) else {
+    let Ok(up) = world.used(alloc) else {
         return Err(OpenError::NoMemory);
     };
     let Ok(kept) = world.order_kept(alloc, keeps, kind) else {

@@ -6,7 +6,7 @@ use ir_model::Kind;
 pub enum Command {
     /// Puts a packet from a source to a destination into the source's inbox.
     Inject(u16, u16),
-    /// Installs a plan of this kind and root over the links that are up.
+    /// Installs a plan of this kind and root over the links that are up and heeded.
     Install(Kind, u16),
     /// The same, but that it is labelled anew, also where installs keep the order of the epoch before.
     Renumber(Kind, u16),
@@ -16,6 +16,10 @@ pub enum Command {
     Down(u16),
     /// Marks a link as up.
     Up(u16),
+    /// Leaves a link out of later installs; it still carries packets.
+    Avoid(u16),
+    /// Lets later installs use a link again.
+    Heed(u16),
     /// Looks until all packets are settled or a node has ended. It is never refused.
     Drain,
 }

@@ -1,8 +1,8 @@
 //! Plans of a network within the limits.
-ghost use Rattle.std.specs.Prelude.{◌≡◌, ◌<◌, ◌≤◌, length, IfOk, IfErr, take};
+ghost use Rattle.std.specs.Prelude.{◌≡◌, ◌<◌, ◌≤◌, length, IfOk, IfErr};
 ghost use Rattle.ir_model.specs.Topology.{node_count, restrict};
 ghost use Rattle.ir_plan.specs.Building.{HasRoot, IsPlanBy, MayLabel, RefusesPlan};
-ghost use Rattle.ir_core.specs.declared.TheConstants.{MAX_LINKS};
+ghost use Rattle.ir_core.specs.{declared.TheConstants.{MAX_LINKS}, Board.links_used};
 ghost use Rattle.ir_core.specs.Drafts.{items_of, labelling_of_draft, order_kept};
 
 use crate::MAX_LINKS;
@@ -106,7 +106,7 @@ fn made_by(
     }
 }
 
-/// The plan that is wanted over the links that are up in a board. Takes as long as `plan_over_by`.
+/// The plan that is wanted over the links that are up and heeded in a board. Takes as long as `plan_over_by`.
 pub fn plan_up_by(
     crew: &impl Crew,
     alloc: Global,
@@ -118,13 +118,13 @@ pub fn plan_up_by(
     requires root { HasRoot topology.now (labelling_of_draft draft) }
     requires labels { MayLabel topology.now draft.kind (labelling_of_draft draft) }
     requires links { length topology.now.links ≤ MAX_LINKS }
-    ensures made { IfOk result (IsPlanBy (restrict (take (length topology.now.links) board.now.up) topology.now)
+    ensures made { IfOk result (IsPlanBy (restrict (links_used board.now (length topology.now.links)) topology.now)
         draft.kind (labelling_of_draft draft)) }
     ensures refused { IfErr result (RefusesPlan
-        (restrict (take (length topology.now.links) board.now.up) topology.now)
+        (restrict (links_used board.now (length topology.now.links)) topology.now)
         (labelling_of_draft draft)) }
 {
-    let up = board.marks(alloc, topology.links())?;
-    let over = topology.only(alloc, up.as_slice())?;
+    let used = board.used(alloc, topology.links())?;
+    let over = topology.only(alloc, used.as_slice())?;
     plan_over_by(crew, alloc, over, draft)
 }

@@ -10,7 +10,7 @@ use Rattle.ir_model.specs.Edgelist.{is_digit, value_of}
 use Rattle.ir_model.specs.Topology.{Topology, ports_of}
 use Rattle.ir_core.specs.declared.event.Way.TheVariants.{Inbox, Link}
 use Rattle.ir_core.specs.declared.event.Event.{Event}
-use Rattle.ir_core.specs.declared.event.Event.TheVariants.{Inject, Learn, Take, Read, Act, Install, Renumber, Retire, Down, Up}
+use Rattle.ir_core.specs.declared.event.Event.TheVariants.{Inject, Learn, Take, Read, Act, Install, Renumber, Retire, Down, Up, Avoid, Heed}
 use Rattle.ir_core.specs.declared.event.Step.{Step}
 use Rattle.ir_core.specs.declared.event.Step.TheVariants as step
 use Rattle.ir_core.specs.declared.command.Command.{Command}
@@ -94,12 +94,14 @@ abbrev pub of_kind : (Kind → ℕ → Event) → Result Kind ScriptFault → Re
 of_kind event (Err e) root = Err e
 of_kind event (Ok kind) root = of_one (λ r. event kind r) root
 
--- `inject A B`, `down A B`, `up A B`, `read N K`, `take N inbox`, `install KIND R`, `renumber KIND R`
+-- `inject A B`, `down A B`, `up A B`, `avoid A B`, `heed A B`, `read N K`, `take N inbox`, `install KIND R`, `renumber KIND R`
 abbrev pub event_of_two : Detour → List Name → Topology → Name → Name → Name → Result Event ScriptFault
 event_of_two detour nodes net command first second =
     if bytes_eq command (codes "inject") then of_two (λ u v. Inject u v) (node_of nodes first) (node_of nodes second)
     else if bytes_eq command (codes "down") then of_one (λ l. Down l) (named_link nodes net first second)
     else if bytes_eq command (codes "up") then of_one (λ l. Up l) (named_link nodes net first second)
+    else if bytes_eq command (codes "avoid") then of_one (λ l. Avoid l) (named_link nodes net first second)
+    else if bytes_eq command (codes "heed") then of_one (λ l. Heed l) (named_link nodes net first second)
     else if bytes_eq command (codes "read") then of_two (λ u k. Read u k) (node_of nodes first) (number_of second)
     else if bytes_eq command (codes "take") && bytes_eq second (codes "inbox") then of_one (λ u. Take u Inbox) (node_of nodes first)
     else if bytes_eq command (codes "install") then of_kind (λ kind r. Install kind r) (kind_named detour first) (node_of nodes second)
@@ -144,6 +146,8 @@ command_of (step.Event (Renumber kind r)) = Ok (command.Renumber kind r)
 command_of (step.Event (Retire f)) = Ok (command.Retire f)
 command_of (step.Event (Down l)) = Ok (command.Down l)
 command_of (step.Event (Up l)) = Ok (command.Up l)
+command_of (step.Event (Avoid l)) = Ok (command.Avoid l)
+command_of (step.Event (Heed l)) = Ok (command.Heed l)
 command_of step.Drain = Ok command.Drain
 command_of (step.Event (Learn e)) = Err BadCommand
 command_of (step.Event (Take u way)) = Err BadCommand
