@@ -16,3 +16,4 @@ pub mod Start
 pub mod Steps
 pub mod FailureLines
 pub mod FarAway
+pub mod NodesLeft

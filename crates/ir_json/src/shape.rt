@@ -21,6 +21,8 @@ pub enum Shape {
     Failures,
     /// What nodes change between two plans.
     Diff,
+    /// The same without each node.
+    Losses,
     /// The prefixes of a plan's nodes.
     Prefixes,
     /// The ranges of a plan's nodes.
