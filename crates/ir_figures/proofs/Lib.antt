@@ -17,3 +17,6 @@ pub mod Steps
 pub mod FailureLines
 pub mod FarAway
 pub mod NodesLeft
+pub mod SoFar
+pub mod PlaceSteps
+pub mod Columns

@@ -5,6 +5,7 @@
 #![tactic(auto)]
 
 mod bits;
+mod column;
 mod compared;
 mod failures;
 mod far;

@@ -1,10 +1,10 @@
 //! The text of the figures that a network has where each of its nodes fails.
-ghost use Rattle.std.specs.Prelude.{◌≡◌, ◌<◌, ℕ, IfOk, length, string_bytes};
+ghost use Rattle.std.specs.Prelude.{◌≡◌, ◌<◌, true, IfOk, length, string_bytes};
 ghost use Rattle.std.specs.List.{AllZip, range_with_len};
-ghost use Rattle.ir_model.specs.{Graph.names, Topology.node_count};
+ghost use Rattle.ir_model.specs.{Graph.{has_node, without_node}, Topology.node_count};
 ghost use Rattle.ir_model.specs.OfGraph.{topology_of_graph};
 ghost use Rattle.ir_plan.specs.Building.{labelling_of};
-ghost use Rattle.ir_figures.specs.Failures.{network_without, number_left, root_left, list_left, labelling_less, labelling_without, IsNodeLine, AreNodeFailures};
+ghost use Rattle.ir_figures.specs.Failures.{number_left, root_left, list_left, labelling_less, labelling_without, IsNodeLine, AreNodeFailures};
 ghost use Rattle.ir_figures.specs.Made.{bytes_made};
 
 use crate::failures::{failures_text, nodes_by_label, push_plan};
@@ -107,6 +107,7 @@ pub fn node_failure_line(
     ensures { IfOk result (λ made. IsNodeLine graph.now plan.now kind order k (bytes_made made)) }
 {
     plan.invariant();
+    graph.invariant();
     let name = name_of(graph, k);
     let left = network_without(alloc, copy, name)?;
     let labels = labels_without(alloc, kind, plan, order, k)?;

@@ -112,8 +112,8 @@ head_form shapes.Walk words = plain (codes "{$:$,\"from\":$,\"to\":$,\"address\"
 head_form shapes.Stats words = figure_form words
 head_form shapes.Compare words = plain (codes "{$:{\"nodes\":#,\"links\":#},\"plans\":[")
 head_form shapes.Failures words = plain (codes "{$:$,\"kind\":$,\"nodes\":#,\"links\":#,\"intervals\":#,\"greatest-row\":#,\"bits\":#,\"mean-stretch\":{\"walks\":<,\"distances\":>},\"worst-stretch\":{\"walk\":<,\"distance\":>},\"dependencies\":$,\"failures\":[")
-head_form shapes.Diff words = plain (codes "{$:[$,$],\"nodes\":#,\"changed\":#,\"relabelled\":#,\"removed\":#,\"put\":#,\"rows\":[")
 head_form shapes.Losses words = plain (codes "{$:$,\"kind\":$,\"nodes\":#,\"links\":#,\"intervals\":#,\"greatest-row\":#,\"bits\":#,\"mean-stretch\":{\"walks\":<,\"distances\":>},\"worst-stretch\":{\"walk\":<,\"distance\":>},\"dependencies\":$,\"failures\":[")
+head_form shapes.Diff words = plain (codes "{$:[$,$],\"nodes\":#,\"changed\":#,\"relabelled\":#,\"removed\":#,\"put\":#,\"rows\":[")
 head_form shapes.Prefixes words = plain (codes "{$:$,\"nodes\":#,\"bits\":#,\"entries\":#,\"rows\":[")
 head_form shapes.Ranges words = plain (codes "{$:$,\"nodes\":#,\"count\":#,\"rows\":[")
 head_form shapes.Trace words = plain (codes "{$:#,\"packets\":[")
@@ -130,11 +130,11 @@ row_form shapes.Walk place words = if is_empty (word_at words 2) then plain (cod
 row_form shapes.Stats place words = figure_form words
 row_form shapes.Compare place words = if place == 1 then plain [] else if is_word_at words 0 (codes "tables") then plain (codes "$:{~~~\"bits\":#}") else plain (codes "{\"kind\":$,\"numbering\":$,\"intervals\":#,\"greatest-row\":#,\"bits\":#,\"mean-stretch\":{\"walks\":<,\"distances\":>},\"worst-stretch\":{\"walk\":<,\"distance\":>},\"dependencies\":$}")
 row_form shapes.Failures place words = if is_word_at words 2 (codes "disconnected") then plain (codes "{\"link\":[$,$],\"disconnected\":true~}") else plain (codes "{\"link\":[$,$],\"intervals\":#,\"greatest-row\":#,\"bits\":#,\"mean-stretch\":{\"walks\":<,\"distances\":>},\"worst-stretch\":{\"walk\":<,\"distance\":>},\"dependencies\":$}")
-row_form shapes.Diff place words = listed (codes "{\"node\":$,\"was\":#,\"label\":#,\"remove\":[") Changes
 row_form shapes.Losses place words =
     if is_word_at words 1 (codes "disconnected") then plain (codes "{\"node\":$,\"disconnected\":true~}")
     else if is_word_at words 1 (codes "empty") then plain (codes "{\"node\":$,\"empty\":true~}")
     else plain (codes "{\"node\":$,\"intervals\":#,\"greatest-row\":#,\"bits\":#,\"mean-stretch\":{\"walks\":<,\"distances\":>},\"worst-stretch\":{\"walk\":<,\"distance\":>},\"dependencies\":$}")
+row_form shapes.Diff place words = listed (codes "{\"node\":$,\"was\":#,\"label\":#,\"remove\":[") Changes
 row_form shapes.Prefixes place words = listed (codes "{\"node\":$,\"label\":#,\"entries\":[") (Pairs (codes "{\"value\":<,\"length\":>,\"next\":?}"))
 row_form shapes.Ranges place words = listed (codes "{\"node\":$,\"label\":#,\"ranges\":[") (Pairs (codes "{\"from\":<,\"to\":>,\"next\":$}"))
 row_form shapes.Trace place words = if has_link words 5 then listed (codes "{\"id\":#,\"epoch\":#,\"from\":$,\"to\":$,\"weight\":#,\"fate\":$,\"link\":[$,$],\"hops\":[") Names else listed (codes "{\"id\":#,\"epoch\":#,\"from\":$,\"to\":$,\"weight\":#,\"fate\":$,\"hops\":[") Names
