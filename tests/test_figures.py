@@ -3,6 +3,7 @@ from __future__ import annotations
 
 import json
 import os
+import pathlib
 import random
 from typing import Dict, List, Optional, Set, Tuple
 
@@ -10,7 +11,7 @@ from oracle.as_json import json_of
 from support.checks import count
 from support.marks import built
 from support.networks import circle
-from support.places import TOP
+from support.places import TOP, work
 from support.route import NAMES, SOME, TEXTS, alike, brief, call, expect, good_files, put, refused, run
 
 pytestmark = [built]
@@ -124,9 +125,27 @@ def without_links(words_: List[str], nodes: List[str], edges: List[Tuple[str, st
     return "".join(texts)
 
 
+def without_nodes(words_: List[str], nodes: List[str], edges: List[Tuple[str, str, int]]) -> str:
+    """The text of `stats --each nodes`, in the same way: by `stats` for the network without a node and its links. Where the root is the node
+    that fails, the first one is the root; an order in a file leaves the node out."""
+    def net(left: List[str]) -> str:
+        return "".join(f"{u} {u} 1\n" for u in left) + "".join(f"{u} {v} {weight}\n" for u, v, weight in edges if u in left and v in left)
+
+    kind = words_[words_.index("--kind") + 1]
+    texts = [f"each nodes {kind} {len(nodes)} {len(edges)} {left_of(words_, net(nodes))}\n"]
+    for k in nodes:
+        words = list(words_)
+        if k in words:
+            del words[words.index(k) - 1:words.index(k) + 1]
+        if words[-1].endswith(".order"):
+            words[-1] = put("each/left.order", "".join(f"{u}\n" for u in pathlib.Path(work(words[-1])).read_text().split() if u != k))
+        texts.append(f"{k} {left_of(words, net([u for u in nodes if u != k])) if len(nodes) > 1 else 'empty'}\n")
+    return "".join(texts)
+
+
 def test_each() -> None:
-    """Each line of `stats --each links` has what `stats` prints of the network without that link, whatever the kind, the numbering and the
-    threads; with an order in a file all plans keep its labels. What is refused."""
+    """Each line of `stats --each links` has what `stats` prints of the network without that link, and of `--each nodes` without that node,
+    whatever the kind, the numbering and the threads; with an order in a file all plans keep its labels. What is refused."""
     luck = random.Random(1)
     ring = put("each/ring.adjlist", "a b c\nb c\nc d\n")
     for turn in range(12):
@@ -142,19 +161,25 @@ def test_each() -> None:
         for words_ in (["--kind", "tree", *root], ["--kind", "shortest", *root, "--numbering", luck.choice(["depth-first", "tour"])],
                        ["--kind", "compact", *root, "--numbering", luck.choice(["depth-first", "tour"])], ["--kind", "landmark", "--stretch", "200", *root],
                        ["--kind", luck.choice(["shortest", "compact"]), "--numbering", order]):
-            told = without_links(words_, nodes, edges)
-            expect(f"network {turn} without each link, {words_[1]}", run(["stats", "--each", "links", *words_, net]), told.encode(), b"", 0)
-            most = luck.choice(["1", "3"])
-            expect(f"network {turn} by {most} threads", run(["stats", "--each", "links", *words_, "--threads", most, net]), told.encode(), b"", 0)
-            shown = run(["stats", "--each", "links", "--json", *words_, net])
-            expect(f"network {turn} without each link as JSON", shown, json_of("each", told)[1].encode(), b"", 0)
-            count(f"the JSON of network {turn} is read", None if json.loads(shown[0]) == json_of("each", told)[0] else "it is another")
+            for what, told in (("links", without_links(words_, nodes, edges)), ("nodes", without_nodes(words_, nodes, edges))):
+                each = ["stats", "--each", what, *words_]
+                expect(f"network {turn} without each of its {what}, {words_[1]}", run([*each, net]), told.encode(), b"", 0)
+                most = luck.choice(["1", "3"])
+                expect(f"network {turn} without {what} by {most} threads", run([*each, "--threads", most, net]), told.encode(), b"", 0)
+                shown = run([*each, "--json", net])
+                expect(f"network {turn} without {what} as JSON", shown, json_of("each", told)[1].encode(), b"", 0)
+                count(f"the JSON of network {turn} without {what} is read", None if json.loads(shown[0]) == json_of("each", told)[0] else "it is another")
     for words_ in (["stats", "--each", "link"], ["stats", "--each", ""], ["stats", "--each"], ["plan", "--each", "links"]):
         expect(f"not understood: {words_}", run([*words_, ring]), b"", SOME, 2)
     lone = run(["stats", "--each", "links", "-"], b"a\n")
     expect("a network with no link", lone, b"each links shortest 1 0 0 0 0 - - acyclic\n", b"", 0)
-    cut = run(["stats", "--each", "links", "-"], b"a b\nc d\n")
-    expect("a network that is in parts", cut, b"", b"opening Disconnected\n", 1)
+    lone = run(["stats", "--each", "nodes", "-"], b"a\n")
+    expect("a network of one node without it", lone, b"each nodes shortest 1 0 0 0 0 - - acyclic\na empty\n", b"", 0)
+    lone = run(["stats", "--each", "nodes", "--json", "-"], b"a\n")
+    expect("the same as JSON", (lone[0][-28:], *lone[1:]), b'[\n{"node":"a","empty":true}\n]}\n'[-28:], b"", 0)
+    for what in ("links", "nodes"):
+        cut = run(["stats", "--each", what, "-"], b"a b\nc d\n")
+        expect(f"a network that is in parts, each of its {what}", cut, b"", b"opening Disconnected\n", 1)
 
 
 COLUMNS = "kind numbering intervals greatest-row bits mean-stretch worst-stretch dependencies"

@@ -11,14 +11,14 @@ plays networks that change in time, and `figures` draws.
 """
 from . import figures as figures  # noqa: F401
 from .calls import (
-    check, compare, compile_many, draw, link_failures, live, names_of, plan, prefixes, ranges, simulate, stats, walk,
+    check, compare, compile_many, draw, link_failures, live, names_of, node_failures, plan, prefixes, ranges, simulate, stats, walk,
 )
 from .diffs import NodeDiff, PlanDiff, diff, patched
 from .errors import (
     BentzoluError, DirectedGraphError, FailureError, FormatError, GraphError, MissingPackageError, MultigraphError,
     ProgramNotFoundError, ResultsError, RouteError, StepError, SweepError, TopologyWarning, UnknownNodeError, WeightError,
 )
-from .failing import LinkFailure, LinkFailures, LinkFigures, read_link_failures
+from .failing import LinkFailure, LinkFailures, LinkFigures, NodeFailure, NodeFailures, read_link_failures, read_node_failures
 from .graphs import scaled
 from .label_ranges import Range, check_ranges, read_ranges
 from .names import Names
@@ -47,5 +47,5 @@ __all__ = [
     # what if: sweeps, changes between plans, plans in parts, networks in time
     "FailureError", "FailureRow", "MissingPackageError", "NodeDiff", "PlanDiff", "Relabeller", "ResultsError", "Shell", "Sweep",
     "SweepError", "Timeline", "diff", "patched", "plan_shards", "read_sweep", "sweep", "LinkFailure", "LinkFailures", "LinkFigures",
-    "link_failures", "read_link_failures",
+    "NodeFailure", "NodeFailures", "link_failures", "node_failures", "read_link_failures", "read_node_failures",
 ]

@@ -18,7 +18,7 @@ from typing import Any, Iterable, Mapping, Sequence
 
 from . import drawing, program as programs, texts
 from .errors import GraphError
-from .failing import LinkFailures, read_link_failures
+from .failing import LinkFailures, NodeFailures, read_link_failures, read_node_failures
 from .label_ranges import Range, read_ranges
 from .options import Options, chosen, detour_words
 from .sources import Topology, read_text, script_of, topology_of
@@ -297,6 +297,38 @@ def link_failures(graph: Network, kind: str | None = None, root: Any = None, *, 
     given = chosen(options, named, kind=kind, root=root)
     output, names = asked("stats", graph, chosen(given, {"words": [*given.words, "--each", "links"]}))
     return read_link_failures(output, names)
+
+
+def node_failures(graph: Network, kind: str | None = None, root: Any = None, *, options: Options | None = None, **named: Any) -> NodeFailures:
+    """The figures of the graph's plan, and of the plan without each node: all made by one call of the program.
+
+    Where the root fails, the plan is made from the first node that is left.
+
+    Parameters
+    ----------
+    graph, kind, root, options, **named
+        As for `plan`.
+
+    Returns
+    -------
+    NodeFailures
+        With `intact` and `failures`, each with its `node` and its `figures`, which are None where nodes are cut off or none is left.
+
+    Raises
+    ------
+    RouteError
+        As for `plan`.
+
+    Examples
+    --------
+    >>> import bentzolu
+    >>> found = bentzolu.node_failures([("a", "b"), ("b", "c"), ("c", "a"), ("c", "d")])
+    >>> [(failure.node, failure.figures and failure.figures.intervals) for failure in found.failures]
+    [('a', 4), ('b', 4), ('c', None), ('d', 6)]
+    """
+    given = chosen(options, named, kind=kind, root=root)
+    output, names = asked("stats", graph, chosen(given, {"words": [*given.words, "--each", "nodes"]}))
+    return read_node_failures(output, names)
 
 
 def prefixes(

@@ -1,4 +1,4 @@
-"""The figures of a network without each of its links, as `route stats --each links` prints them.
+"""The figures of a network without each of its links or nodes, as `route stats --each links|nodes` prints them.
 
 The program makes the plan of each, so no start of it and no text of a plan is paid for a failure. `sweep` tells more of each
 failure, as what changes beside the plan of the whole network.
@@ -36,6 +36,22 @@ class LinkFailure(NamedTuple):
     figures: Optional[LinkFigures]
 
 
+class NodeFailure(NamedTuple):
+    """A node that fails, and the figures of the plan for the network without it; None where then some node has no path to some node, or
+    no node is left."""
+
+    node: Hashable
+    figures: Optional[LinkFigures]
+
+
+class NodeFailures(NamedTuple):
+    """The kind of the plans, the figures of the whole network's plan, and a `NodeFailure` for each node."""
+
+    kind: str
+    intact: LinkFigures
+    failures: Tuple[NodeFailure, ...]
+
+
 class LinkFailures(NamedTuple):
     """The kind of the plans, the figures of the whole network's plan, and a `LinkFailure` for each link."""
 
@@ -58,6 +74,14 @@ def read_figures(words: List[str], line: int) -> LinkFigures:
         raise FormatError("a line has six figures, of which the last is 'acyclic' or 'cycle'", line)
     intervals, greatest_row, bits = (number(word, line) for word in words[:3])
     return LinkFigures(intervals, greatest_row, bits, read_fraction(words[3], line), read_fraction(words[4], line), words[5] == "cycle")
+
+
+def headed_by(text: str, what: str) -> Tuple[List[str], List[Tuple[int, List[str]]]]:
+    """The words of the first line, and the further lines with their numbers, of a text of this failing."""
+    first, lines = headed(text, "each", 11)
+    if first[1] != what:
+        raise FormatError(f"the text begins with 'each {first[1]}', not with 'each {what}'", 1)
+    return first, lines
 
 
 def read_link_failures(text: str, names: NodeNames = SAME) -> LinkFailures:
@@ -83,7 +107,7 @@ def read_link_failures(text: str, names: NodeNames = SAME) -> LinkFailures:
     >>> found.intact.bits, found.failures
     (4, (LinkFailure(link=('a', 'b'), figures=None),))
     """
-    first, lines = headed(text, "each", 11)
+    first, lines = headed_by(text, "links")
     rows: List[Any] = []
     for line, words in lines:
         if len(words) < 3:
@@ -91,3 +115,36 @@ def read_link_failures(text: str, names: NodeNames = SAME) -> LinkFailures:
         link = (names.node(words[0]), names.node(words[1]))
         rows.append(LinkFailure(link, None if words[2:] == ["disconnected"] else read_figures(words[2:], line)))
     return LinkFailures(first[2], read_figures(first[5:], 1), tuple(rows))
+
+
+def read_node_failures(text: str, names: NodeNames = SAME) -> NodeFailures:
+    """The figures without each node, of the text that `route stats --each nodes` prints.
+
+    Parameters
+    ----------
+    text, names
+        As for `read_plan`.
+
+    Returns
+    -------
+    NodeFailures
+
+    Raises
+    ------
+    FormatError, UnknownNodeError
+        As `read_plan`.
+
+    Examples
+    --------
+    >>> found = read_node_failures("each nodes tree 1 0 0 0 0 - - acyclic\\na empty\\n")
+    >>> found.failures
+    (NodeFailure(node='a', figures=None),)
+    """
+    first, lines = headed_by(text, "nodes")
+    rows: List[Any] = []
+    for line, words in lines:
+        if len(words) < 2:
+            raise FormatError("a line has a node and what is left without it", line)
+        gone = words[1:] in (["disconnected"], ["empty"])
+        rows.append(NodeFailure(names.node(words[0]), None if gone else read_figures(words[1:], line)))
+    return NodeFailures(first[2], read_figures(first[5:], 1), tuple(rows))

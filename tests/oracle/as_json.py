@@ -115,8 +115,12 @@ def failure(row: Any) -> dict[Any, Any]:
     return {"link": row[:2], **({"disconnected": True} if row[2] == "disconnected" else measured(row[2:]))}
 
 
+def loss(row: Any) -> Any:
+    return {"node": row[0], **({row[1]: True} if row[1] in ("disconnected", "empty") else measured(row[1:]))}
+
+
 def each(lines: Any) -> tuple[Any, Any, Any]:
-    return {**fields("each kind #nodes #links", lines[0][1:]), **measured(lines[0][5:])}, "failures", [failure(row) for row in lines[1:]]
+    return {**fields("each kind #nodes #links", lines[0][1:]), **measured(lines[0][5:])}, "failures", [(loss if lines[0][1] == "nodes" else failure)(row) for row in lines[1:]]
 
 
 def shown(value: Any) -> Any:

@@ -10,18 +10,15 @@ use Rattle.ir_model.specs.declared.Kind.{Kind}
 use Rattle.ir_model.specs.declared.Kind.TheVariants.{Tree, Shortest, Compact, Landmark}
 use Rattle.ir_model.specs.declared.Link.{Link}
 use Rattle.ir_model.specs.Topology.{Topology, restrict}
-use Rattle.ir_model.specs.Walk.{IsDisconnected}
 use Rattle.ir_model.specs.Plan.{Plan, IsPlan}
 use Rattle.ir_model.proofs.Restrict.{node_count-restrict}
-use Rattle.ir_plan.specs.Building.{Labelling, ByList, MayLabel, IsPlanBy, RefusesPlan}
+use Rattle.ir_plan.specs.Building.{Labelling, FromRoot, ByList, MayLabel, HasRoot, HasNoRoot}
 use Rattle.ir_plan.specs.declared.crew.NodeText.{NodeText}
-use Rattle.ir_plan.specs.declared.error.PlanError.{PlanError}
-use Rattle.ir_plan.specs.declared.error.PlanError.TheVariants.{Disconnected}
 use Rattle.ir_plan.specs.declared.tour.LabelOrder.{LabelOrder}
 use Rattle.ir_trace.specs.Rows.{spaced}
 use Rattle.ir_trace.proofs.WrittenRows.{join_spaced}
 use Rattle.ir_show.specs.Words.{line_text}
-use Rattle.ir_figures.specs.Failures.{all_but, labelling_kept, labelling_left, without_link}
+use Rattle.ir_figures.specs.Failures.{all_but, labelling_kept, labelling_left, without_link, AreWordsOf}
 use Rattle.ir_figures.specs.Made.{bytes_made}
 
 -- ---- words
@@ -52,17 +49,25 @@ line_told old a b c d first second words one two three four =
     (four_pieces old first (spaced second) (flat_map spaced words) (10 ∷ [])
     ∙ ap (λ t. old ++ (t ++ 10 ∷ [])) (sym (join_spaced first (second ∷ words))))
 
-six_pieces : (old a b c d e f : List ℕ) → (((((old ++ a) ++ b) ++ c) ++ d) ++ e) ++ f ≡ old ++ ((a ++ (b ++ (c ++ (d ++ e)))) ++ f)
-six_pieces old a b c d e f = simp append_assoc
+-- the same of one word and further ones
+pub one_told : (old a b c first : List ℕ) (words : List (List ℕ)) → a ≡ old ++ first → b ≡ a ++ flat_map spaced words → c ≡ b ++ 10 ∷ []
+    → c ≡ old ++ line_text (first ∷ words)
+one_told old a b c first words one two three =
+    rw (three, two, one)
+    (three_pieces old first (flat_map spaced words) (10 ∷ [])
+    ∙ ap (λ t. old ++ (t ++ 10 ∷ [])) (sym (join_spaced first words)))
+
+seven_pieces : (old a b c d e f g : List ℕ) → ((((((old ++ a) ++ b) ++ c) ++ d) ++ e) ++ f) ++ g ≡ old ++ ((a ++ (b ++ (c ++ (d ++ (e ++ f))))) ++ g)
+seven_pieces old a b c d e f g = simp append_assoc
 
 -- the first line
-pub head_told : (old a b c d e f kind nodes links : List ℕ) (words : List (List ℕ))
-    → a ≡ old ++ codes "each links" → b ≡ a ++ spaced kind → c ≡ b ++ spaced nodes → d ≡ c ++ spaced links → e ≡ d ++ flat_map spaced words → f ≡ e ++ 10 ∷ []
-    → f ≡ old ++ line_text (codes "each" ∷ codes "links" ∷ kind ∷ nodes ∷ links ∷ words)
-head_told old a b c d e f kind nodes links words one two three four five six =
-    rw (six, five, four, three, two, one)
-    (six_pieces old (codes "each links") (spaced kind) (spaced nodes) (spaced links) (flat_map spaced words) (10 ∷ [])
-    ∙ ap (λ t. old ++ (t ++ 10 ∷ [])) (sym (join_spaced (codes "each") (codes "links" ∷ kind ∷ nodes ∷ links ∷ words))))
+pub head_told : (old a b c d e f g what kind nodes links : List ℕ) (words : List (List ℕ))
+    → a ≡ old ++ codes "each" → b ≡ a ++ spaced what → c ≡ b ++ spaced kind → d ≡ c ++ spaced nodes → e ≡ d ++ spaced links → f ≡ e ++ flat_map spaced words → g ≡ f ++ 10 ∷ []
+    → g ≡ old ++ line_text (codes "each" ∷ what ∷ kind ∷ nodes ∷ links ∷ words)
+head_told old a b c d e f g what kind nodes links words one two three four five six seven =
+    rw (seven, six, five, four, three, two, one)
+    (seven_pieces old (codes "each") (spaced what) (spaced kind) (spaced nodes) (spaced links) (flat_map spaced words) (10 ∷ [])
+    ∙ ap (λ t. old ++ (t ++ 10 ∷ [])) (sym (join_spaced (codes "each") (what ∷ kind ∷ nodes ∷ links ∷ words))))
 
 -- ---- texts of a crew
 
@@ -129,17 +134,31 @@ pub may_label_left : (plan : Plan) (order : Option LabelOrder) (l : ℕ) (left :
     → left ≡ without_link plan.topology l → kind ≡ plan.kind → labels ≡ labelling_left plan order → MayLabel left kind labels
 may_label_left plan order l left kind labels is over same named = rw (over, same, named) (may_label plan order (all_but (length plan.topology.links) l) is)
 
-pub plan_left : (plan : Plan) (order : Option LabelOrder) (l : ℕ) (left : Topology) (kind : Kind) (labels : Labelling) (found : Plan)
-    → left ≡ without_link plan.topology l → kind ≡ plan.kind → labels ≡ labelling_left plan order → IsPlanBy left kind labels found
-    → IsPlanBy (without_link plan.topology l) plan.kind (labelling_left plan order) found
-plan_left plan order l left kind labels found over same named is =
-    subst (λ (n : Topology). IsPlanBy n plan.kind (labelling_left plan order) found) over
-    (subst (λ (k : Kind). IsPlanBy left k (labelling_left plan order) found) same (subst (λ (x : Labelling). IsPlanBy left kind x found) named is))
+may_start : (kind : Kind) (plan : Plan) (up : List Bool) → IsPlan plan → HasRoot (restrict up plan.topology) (labelling_kept kind plan)
+may_start Tree plan up is = omega (arith, node_count-restrict up plan.topology, is.root_in)
+may_start Shortest plan up is = tt
+may_start Compact plan up is = tt
+may_start (Landmark t) plan up is = tt
 
-pub cut_left : (net left : Topology) (l : ℕ) (labels : Labelling) (error : PlanError) → left ≡ without_link net l → error ≡ Disconnected → RefusesPlan left labels error → IsDisconnected (without_link net l)
-cut_left net left l labels error over is refuses =
-    let cut : RefusesPlan left labels Disconnected = subst (λ (e : PlanError). RefusesPlan left labels e) is refuses in
-    subst (λ (n : Topology). IsDisconnected n) over cut.2
+-- its root is a node
+has_root : (plan : Plan) (order : Option LabelOrder) (up : List Bool) → IsPlan plan → HasRoot (restrict up plan.topology) (labelling_left plan order)
+has_root plan (Some order) up is = omega (arith, node_count-restrict up plan.topology, is.root_in)
+has_root plan None up is = may_start plan.kind plan up is
+
+pub has_root_left : (plan : Plan) (order : Option LabelOrder) (l : ℕ) (left : Topology) (labels : Labelling) → IsPlan plan
+    → left ≡ without_link plan.topology l → labels ≡ labelling_left plan order → HasRoot left labels
+has_root_left plan order l left labels is over named = rw (over, named) (has_root plan order (all_but (length plan.topology.links) l) is)
+
+pub no_root_twice : (net : Topology) (labels : Labelling) → HasRoot net labels → HasNoRoot net labels → ⊥
+no_root_twice net (FromRoot order root) has none = omega (arith, has, none)
+no_root_twice net (ByList list) has none = none
+
+-- what the words say of a network, where it, the kind and the labels have other names
+pub words_over : (net left : Topology) (kind other : Kind) (labels same : Labelling) (words : List (List ℕ)) → left ≡ net → other ≡ kind → same ≡ labels → AreWordsOf left other same words
+    → AreWordsOf net kind labels words
+words_over net left kind other labels same words over alike named are =
+    subst (λ (n : Topology). AreWordsOf n kind labels words) over
+    (subst (λ (k : Kind). AreWordsOf left k labels words) alike (subst (λ (x : Labelling). AreWordsOf left other x words) named are))
 
 -- ---- what is written last
 
@@ -147,6 +166,11 @@ cut_left net left l labels error over is refuses =
 pub on_written : {T E P : Type 0} (r : Result T E) (t0 t1 piece : List ℕ) → t1 ≡ (if is_ok r then t0 ++ piece else t0) → (t1 ≡ t0 ++ piece → P) → OnOk r P
 on_written (Ok v) t0 t1 piece e so = so e
 on_written (Err x) t0 t1 piece e so = tt
+
+-- what follows of a value that was made
+pub on_text : {T E : Type 0} {P Q : T → Type 0} (r : Result T E) → ((v : T) → P v → Q v) → IfOk r P → IfOk r Q
+on_text (Ok v) so holds = so v holds
+on_text (Err x) so holds = tt
 
 -- the link that is there
 pub link_there : (o : Option Link) (P : Link → Type 0) → IsSomeAnd o P → (link : Link) × (o ≡ Some link) × P link

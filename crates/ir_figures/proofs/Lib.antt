@@ -16,3 +16,7 @@ pub mod Start
 pub mod Steps
 pub mod FailureLines
 pub mod FarAway
+pub mod NodesLeft
+pub mod SoFar
+pub mod PlaceSteps
+pub mod Columns

@@ -2,7 +2,9 @@
 use Rattle.std.specs.Prelude.{◌≡◌, ℕ, ◌+◌, ◌<◌, ◌≤◌, ◌⊎◌, Bool, true, Option, Some, List, [], ◌++◌, replicate, length, take, sum_by, slice_index, slice_index_or, None, false}
 use Rattle.ir_model.specs.declared.Hop.{Hop}
 use Rattle.ir_model.specs.Topology.{Topology, node_count, ports_of, port_at}
-use Rattle.ir_model.specs.Plan.{Plan, table_port, node_in}
+use Rattle.ir_model.specs.Row.{labels, IsPlaceOf}
+use Rattle.ir_model.specs.Plan.{Plan, table_port, node_in, label_in, row_in}
+use Rattle.ir_figures.specs.Waits.{Waits}
 
 -- how many links leave the nodes before u
 abbrev pub exits_before : Topology → ℕ → ℕ
@@ -17,17 +19,21 @@ pub record AreExits (topology : Topology) (count : ℕ) (first nodes : List ℕ)
   pub after : (c : ℕ) → c < length nodes → exits_before topology (slice_index nodes c) ≤ c
   pub below : (c : ℕ) → c < length nodes → c < exits_before topology (slice_index nodes c + 1)
 
--- the ports of u by label
-pub record ArePortsByLabel (plan : Plan) (u : ℕ) (ports : List (Option ℕ)) : Type 0 where
-  pub every : length ports ≡ node_count plan.topology
-  pub each : (a : ℕ) → a < node_count plan.topology → slice_index_or ports a None ≡ table_port plan u (node_in plan a)
+-- of each node the place in its row of the interval that has the label a
+pub record ArePlaces (plan : Plan) (a : ℕ) (places : List ℕ) : Type 0 where
+  pub every : length places ≡ node_count plan.topology
+  pub within : (u : ℕ) → u < node_count plan.topology → slice_index places u ≤ length (row_in plan u)
+  pub each : (u : ℕ) → u < node_count plan.topology → 1 < node_count plan.topology → IsPlaceOf (labels (row_in plan u)) a (slice_index places u)
 
--- A mark for each port of v: where what goes from u by port p to some label leaves v by that port.
-pub record AreOnward (plan : Plan) (u p v count : ℕ) (marks : List Bool) : Type 0 where
-  pub every : length marks ≡ length (ports_of plan.topology v)
-  pub passed : (a q : ℕ) → a < count → table_port plan u (node_in plan a) ≡ Some p → table_port plan v (node_in plan a) ≡ Some q → slice_index_or marks q false ≡ true
-  pub only : (q : ℕ) → slice_index_or marks q false ≡ true
-      → (a : ℕ) × (a < node_count plan.topology) × (table_port plan u (node_in plan a) ≡ Some p) × (table_port plan v (node_in plan a) ≡ Some q)
+-- the ports of all nodes to the label a
+pub record IsColumn (plan : Plan) (a : ℕ) (ports : List (Option ℕ)) : Type 0 where
+  pub every : length ports ≡ node_count plan.topology
+  pub each : (u : ℕ) → u < node_count plan.topology → slice_index_or ports u None ≡ table_port plan u (node_in plan a)
+
+-- A link waits for another one on a walk to a label before a, or, where the link leaves one of the first k nodes, to a.
+pub record WaitsSoFar (plan : Plan) (a k : ℕ) (u p v q : ℕ) : Type 0 where
+  pub wait : Waits plan u p v q
+  pub so_far : (label_in plan wait.goal < a) ⊎ ((label_in plan wait.goal ≡ a) × (u < k))
 
 -- by which links wait for which
 module _ (topology : Topology) (waits : ℕ → ℕ → ℕ → ℕ → Type 0) where
@@ -54,13 +60,6 @@ module _ (topology : Topology) (waits : ℕ → ℕ → ℕ → ℕ → Type 0) 
 -- the node u follows the others, so many times
 abbrev pub AreNextExits : List ℕ → ℕ → ℕ → List ℕ → Type 0
 AreNextExits old u count new = new ≡ old ++ replicate count u
-
--- the marks with one more, for the port of v to the label a
-pub record IsMarkedFor (plan : Plan) (v a : ℕ) (old new : List Bool) : Type 0 where
-  pub every : length new ≡ length old
-  pub kept : (q : ℕ) → slice_index_or old q false ≡ true → slice_index_or new q false ≡ true
-  pub marked : (q : ℕ) → table_port plan v (node_in plan a) ≡ Some q → slice_index_or new q false ≡ true
-  pub only : (q : ℕ) → slice_index_or new q false ≡ true → (slice_index_or old q false ≡ true) ⊎ (table_port plan v (node_in plan a) ≡ Some q)
 
 -- of the first so many places those are marked that were marked, or are so in another row
 pub record AreMarkedAlso (count : ℕ) (old other new : List Bool) : Type 0 where

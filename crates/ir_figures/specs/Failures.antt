@@ -1,10 +1,11 @@
--- The text of the figures that a network has where each of its links fails.
-use Rattle.std.specs.Prelude.{◌≡◌, ℕ, ◌⊎◌, ◌++◌, Bool, true, false, List, [], ◌∷◌, length, flat_map, decimal, codes, replicate, slice_get, slice_set, Option, None, Some}
+-- The text of the figures that a network has where each of its links or nodes fails.
+use Rattle.std.specs.Prelude.{◌≡◌, ℕ, ◌-◌, ◌==◌, ◌⊎◌, ◌++◌, Bool, true, false, not, nat_lt, if◌then◌else◌, List, [], ◌∷◌, length, map, filter, flat_map, decimal, codes, replicate, slice_get, slice_set, Option, None, Some}
 use Rattle.std.specs.List.{AllZip, range_with_len}
 use Rattle.ir_model.specs.declared.Kind.{Kind}
 use Rattle.ir_model.specs.declared.Kind.TheVariants.{Tree, Shortest, Compact, Landmark}
 use Rattle.ir_model.specs.declared.Link.{Link}
-use Rattle.ir_model.specs.Graph.{Name}
+use Rattle.ir_model.specs.Graph.{Name, Adjacency, names, without_node}
+use Rattle.ir_model.specs.OfGraph.{topology_of_graph}
 use Rattle.ir_model.specs.Topology.{Topology, node_count, restrict}
 use Rattle.ir_model.specs.Walk.{IsDisconnected}
 use Rattle.ir_model.specs.Plan.{Plan}
@@ -59,11 +60,13 @@ abbrev pub labelling_left : Plan → Option LabelOrder → Labelling
 labelling_left plan (Some order) = FromRoot order plan.root
 labelling_left plan None = labelling_kept plan.kind plan
 
--- The words say what a network comes to: the figures of the plan over it of this kind and these labels, or that some node
--- has no walk to some node.
+-- The words say what a network comes to: the figures of the plan over it of this kind and these labels, that some node has
+-- no walk to some node, or that there is no node.
 abbrev pub AreWordsOf : Topology → Kind → Labelling → List (List ℕ) → Type 0
 AreWordsOf net kind labels words =
-    ((plan : Plan) × IsPlanBy net kind labels plan × AreFigureWords plan words) ⊎ (IsDisconnected net × (words ≡ codes "disconnected" ∷ []))
+    ((plan : Plan) × IsPlanBy net kind labels plan × AreFigureWords plan words)
+    ⊎ (IsDisconnected net × (words ≡ codes "disconnected" ∷ []))
+    ⊎ ((node_count net ≡ 0) × (words ≡ codes "empty" ∷ []))
 
 -- `A B ..`: the ends of the link l, and what the network without it comes to.
 pub record IsLinkLine (nodes : List Name) (plan : Plan) (labels : Option LabelOrder) (l : ℕ) (line : List ℕ) : Type 0 where
@@ -73,10 +76,10 @@ pub record IsLinkLine (nodes : List Name) (plan : Plan) (labels : Option LabelOr
   pub left : AreWordsOf (without_link plan.topology l) plan.kind (labelling_left plan labels) words
   pub whole : line ≡ line_text (name_at nodes link.low ∷ name_at nodes link.high ∷ words)
 
--- `each links KIND N M ..`: with the figures of the plan of the whole network
-abbrev pub links_head : Plan → List (List ℕ) → List (List ℕ)
-links_head plan words =
-    codes "each" ∷ codes "links" ∷ kind_text plan.kind ∷ decimal (node_count plan.topology) ∷ decimal (length plan.topology.links) ∷ words
+-- `each WHAT KIND N M ..`: with the figures of the plan of the whole network
+abbrev pub failures_head : List ℕ → Plan → List (List ℕ) → List (List ℕ)
+failures_head what plan words =
+    codes "each" ∷ what ∷ kind_text plan.kind ∷ decimal (node_count plan.topology) ∷ decimal (length plan.topology.links) ∷ words
 
 -- The text has the figures of a plan, and behind them a line for each link, by number.
 pub record AreLinkFailures (nodes : List Name) (plan : Plan) (labels : Option LabelOrder) (text : List ℕ) : Type 0 where
@@ -84,4 +87,50 @@ pub record AreLinkFailures (nodes : List Name) (plan : Plan) (labels : Option La
   pub figures : AreFigureWords plan words
   pub lines : List (List ℕ)
   pub each : AllZip (IsLinkLine nodes plan labels) (range_with_len 0 (length plan.topology.links)) lines
-  pub whole : text ≡ line_text (links_head plan words) ++ flat_map (λ line. line) lines
+  pub whole : text ≡ line_text (failures_head (codes "links") plan words) ++ flat_map (λ line. line) lines
+
+
+-- ---- where a node fails
+
+-- the network of a graph without the node k and its links: that of a graph that never had it
+abbrev pub network_without : Adjacency → ℕ → Topology
+network_without g k = topology_of_graph (without_node g (name_at (names g) k))
+
+-- the number that another node has there: the nodes after k come one earlier
+abbrev pub number_left : ℕ → ℕ → ℕ
+number_left k u = if nat_lt k u then u - 1 else u
+
+-- the root there: that of the whole network's plan, or where it is the one that fails the first node
+abbrev pub root_left : ℕ → ℕ → ℕ
+root_left k root = if root == k then 0 else number_left k root
+
+-- the nodes of a list there, in the same order
+abbrev pub list_left : ℕ → List ℕ → List ℕ
+list_left k nodes = map (number_left k) (filter (λ u. not (u == k)) nodes)
+
+-- the labels of a plan there as a list, in the same order; those of a tree are depth first from the root
+abbrev pub labelling_less : Kind → Plan → ℕ → Labelling
+labelling_less Tree plan k = FromRoot DepthFirst (root_left k plan.root)
+labelling_less Shortest plan k = ByList (list_left k plan.order)
+labelling_less Compact plan k = ByList (list_left k plan.order)
+labelling_less (Landmark t) plan k = ByList (list_left k plan.order)
+
+-- By what the plans of this kind are labelled where a node fails: in this order from the root, or as the plan of the whole
+-- network.
+abbrev pub labelling_without : Kind → Plan → Option LabelOrder → ℕ → Labelling
+labelling_without kind plan (Some order) k = FromRoot order (root_left k plan.root)
+labelling_without kind plan None k = labelling_less kind plan k
+
+-- `A ..`: the node k, and what the network without it comes to by a plan of this kind.
+pub record IsNodeLine (g : Adjacency) (plan : Plan) (kind : Kind) (labels : Option LabelOrder) (k : ℕ) (line : List ℕ) : Type 0 where
+  pub words : List (List ℕ)
+  pub left : AreWordsOf (network_without g k) kind (labelling_without kind plan labels k) words
+  pub whole : line ≡ line_text (name_at (names g) k ∷ words)
+
+-- The text has the figures of a plan, and after them a line for each node, in order.
+pub record AreNodeFailures (g : Adjacency) (plan : Plan) (kind : Kind) (labels : Option LabelOrder) (text : List ℕ) : Type 0 where
+  pub words : List (List ℕ)
+  pub figures : AreFigureWords plan words
+  pub lines : List (List ℕ)
+  pub each : AllZip (IsNodeLine g plan kind labels) (range_with_len 0 (node_count plan.topology)) lines
+  pub whole : text ≡ line_text (failures_head (codes "nodes") plan words) ++ flat_map (λ line. line) lines

@@ -1,11 +1,11 @@
 //! The text of the figures that a network has where each of its links fails.
-ghost use Rattle.std.specs.Prelude.{◌≡◌, ◌<◌, ◌++◌, ℕ, List, IfNone, IfOk, IfSome, OnOk, flat_map, length, string_bytes};
+ghost use Rattle.std.specs.Prelude.{◌≡◌, ◌<◌, ◌++◌, ℕ, List, IfOk, OnOk, flat_map, length, string_bytes};
 ghost use Rattle.std.specs.List.{AllZip, range_with_len};
-ghost use Rattle.ir_model.specs.{Graph.names, Topology.node_count, Walk.IsDisconnected};
-ghost use Rattle.ir_plan.specs.Building.{IsPlanBy, labelling_of};
+ghost use Rattle.ir_model.specs.{Graph.names, Topology.node_count};
+ghost use Rattle.ir_plan.specs.Building.{HasRoot, MayLabel, labelling_of};
 ghost use Rattle.ir_trace.specs.Rows.{spaced};
 ghost use Rattle.ir_show.specs.Words.{line_text};
-ghost use Rattle.ir_figures.specs.Failures.{all_but, without_link, labelling_kept, labelling_left, links_head, AreFigureWords, AreWordsOf, IsLinkLine, AreLinkFailures};
+ghost use Rattle.ir_figures.specs.Failures.{all_but, without_link, labelling_kept, labelling_left, failures_head, AreFigureWords, AreWordsOf, IsLinkLine, AreLinkFailures};
 ghost use Rattle.ir_figures.specs.Made.{bytes_made};
 
 use crate::bits::bits_of;
@@ -17,6 +17,7 @@ use ir_model::Kind;
 use ir_plan::{Alone, Crew, LabelOrder, Labels, NodeText, Plan, PlanError};
 use ir_show::plan_text::kind_text;
 use ir_show::{TextResult, greatest_row};
+use ir_tables::Topology;
 use ir_trace::text::{name_of, push_name, push_next_number, push_word};
 use std::alloc::{AllocError, Global};
 
@@ -48,7 +49,7 @@ fn all_but(alloc: Global, count: usize, l: usize) -> Result<Vec<bool>, AllocErro
 }
 
 /// The nodes of a plan by label.
-fn nodes_by_label(alloc: Global, plan: &Plan) -> Result<Vec<u16>, AllocError>
+pub(crate) fn nodes_by_label(alloc: Global, plan: &Plan) -> Result<Vec<u16>, AllocError>
     ensures { IfOk result (λ nodes. nodes.items ≡ plan.now.order) }
 {
     plan.invariant();
@@ -82,31 +83,33 @@ fn labels_left(alloc: Global, plan: &Plan, order: Option<LabelOrder>) -> Result<
     }
 }
 
-/// The plan without a link; None where some node has no walk to some node.
-fn plan_without(
-    alloc: Global,
-    plan: &Plan,
-    order: Option<LabelOrder>,
-    l: usize,
-) -> Result<Option<Plan>, AllocError>
+/// Writes what a network comes to: the figures of its plan of a kind, or that there is none.
+pub(crate) fn push_plan(text: &mut String, alloc: Global, net: Topology, kind: Kind, labels: Labels) -> TextResult
+    requires labels { MayLabel net kind (labelling_of labels) }
+    requires root { 0 < node_count net → HasRoot net (labelling_of labels) }
+    ensures { OnOk result ((words : List (List ℕ)) × AreWordsOf net kind (labelling_of labels) words
+        × (string_bytes text.new ≡ string_bytes text.old ++ flat_map spaced words)) }
+{
+    match Plan::build_by(&Alone, alloc, net, kind, labels) {
+        Ok(plan) => push_figures(text, alloc, &plan),
+        Err((error, _net)) => match error {
+            PlanError::Disconnected => push_word(text, "disconnected"),
+            PlanError::Empty => push_word(text, "empty"),
+            PlanError::NoMemory => Err(AllocError),
+            PlanError::NoNode => unreachable!(),
+        },
+    }
+}
+
+/// The network of a plan without a link.
+fn without_link(alloc: Global, plan: &Plan, l: usize) -> Result<Topology, AllocError>
     requires link { l < length plan.now.topology.links }
-    ensures plan { IfOk result (λ found. IfSome found (IsPlanBy (without_link plan.now.topology l)
-        plan.now.kind (labelling_left plan.now order))) }
-    ensures cut { IfOk result (λ found. IfNone found (IsDisconnected (without_link plan.now.topology l))) }
+    ensures { IfOk result (λ left. left ≡ without_link plan.now.topology l) }
 {
     plan.invariant();
     let topology = plan.topology();
     let up = all_but(alloc, topology.links(), l)?;
-    let left = topology.only(alloc, up.as_slice())?;
-    let labels = labels_left(alloc, plan, order)?;
-    match Plan::build_by(&Alone, alloc, left, plan.kind(), labels) {
-        Ok(found) => Ok(Some(found)),
-        Err((error, _left)) => match error {
-            PlanError::Disconnected => Ok(None),
-            PlanError::NoMemory => Err(AllocError),
-            PlanError::Empty | PlanError::NoNode => unreachable!(),
-        },
-    }
+    topology.only(alloc, up.as_slice())
 }
 
 /// Writes what the network without a link comes to.
@@ -122,11 +125,10 @@ fn push_left(
         × AreWordsOf (without_link plan.now.topology l) plan.now.kind (labelling_left plan.now order) words
         × (string_bytes text.new ≡ string_bytes text.old ++ flat_map spaced words)) }
 {
-    let found = plan_without(alloc, plan, order, l)?;
-    match found {
-        Some(left) => push_figures(text, alloc, &left),
-        None => push_word(text, "disconnected"),
-    }
+    plan.invariant();
+    let left = without_link(alloc, plan, l)?;
+    let labels = labels_left(alloc, plan, order)?;
+    push_plan(text, alloc, left, plan.kind(), labels)
 }
 
 /// The line of a link that fails.
@@ -186,16 +188,28 @@ fn push_texts(text: &mut String, made: &[NodeText]) -> TextResult
 }
 
 /// Writes the first line.
-fn push_head(text: &mut String, alloc: Global, plan: &Plan) -> TextResult
+fn push_head(text: &mut String, alloc: Global, plan: &Plan, what: &str) -> TextResult
     ensures { OnOk result ((words : List (List ℕ)) × AreFigureWords plan.now words
-        × (string_bytes text.new ≡ string_bytes text.old ++ line_text (links_head plan.now words))) }
+        × (string_bytes text.new ≡ string_bytes text.old ++ line_text (failures_head what.now plan.now words))) }
 {
-    text.push_str("each links")?;
+    text.push_str("each")?;
+    push_word(text, what)?;
     push_word(text, kind_text(plan.kind()))?;
     push_next_number(text, plan.nodes())?;
     push_next_number(text, plan.topology().links())?;
     push_figures(text, alloc, plan)?;
     text.push_str("\n")
+}
+
+/// The text of the figures of a plan and of these lines.
+pub(crate) fn failures_text(alloc: Global, plan: &Plan, what: &str, lines: &[NodeText]) -> Result<String, AllocError>
+    ensures { IfOk result (λ text. (words : List (List ℕ)) × AreFigureWords plan.now words
+        × (string_bytes text ≡ line_text (failures_head what.now plan.now words) ++ flat_map bytes_made lines.now)) }
+{
+    let mut text = String::new(alloc);
+    push_head(&mut text, alloc, plan, what)?;
+    push_texts(&mut text, lines)?;
+    Ok(text)
 }
 
 /// The text of the figures of a plan, and behind it a line for each link of its network, with the
@@ -217,8 +231,5 @@ pub fn link_failures_text(
     ensures { IfOk result (λ text. AreLinkFailures (names graph.now) plan.now order (string_bytes text)) }
 {
     let lines = lines_by(crew, alloc, graph, plan, order)?;
-    let mut text = String::new(alloc);
-    push_head(&mut text, alloc, plan)?;
-    push_texts(&mut text, lines.as_slice())?;
-    Ok(text)
+    failures_text(alloc, plan, "links", lines.as_slice())
 }

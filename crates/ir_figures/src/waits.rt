@@ -1,10 +1,11 @@
 //! Rings of directed links that wait for each other.
-ghost use Rattle.std.specs.Prelude.{◌≡◌, ◌↔◌, ◌+◌, ◌<◌, ℕ, List, Some, IsTrue, IfNone, IfOk, IfSome, OnOk, length, slice_index};
-ghost use Rattle.ir_model.specs.{Topology.{node_count, ports_of}, Plan.IsPlan};
+ghost use Rattle.std.specs.Prelude.{◌≡◌, ◌+◌, ◌<◌, ℕ, List, true, false, replicate, IfNone, IfOk, IfSome, OnOk, length, slice_index, slice_set};
+ghost use Rattle.ir_model.specs.{Topology.node_count, Plan.IsPlan};
 ghost use Rattle.ir_figures.specs.Arcs.{marks_of, width_of, IsDigraph, IsAcyclic, IsRing};
 ghost use Rattle.ir_figures.specs.Waits.{Waits, WaitsInEither, IsWithoutRing, IsWaitingRing};
-ghost use Rattle.ir_figures.specs.Exits.{exits_before, AreExits, AreNextExits, ArePortsByLabel, AreOnward, IsMarkedFor, AreLinks, AreMarkedAlso, AreRowsMarkedAlso, AreLeftBy};
+ghost use Rattle.ir_figures.specs.Exits.{exits_before, AreExits, AreNextExits, IsColumn, WaitsSoFar, AreLinks, AreMarkedAlso, AreRowsMarkedAlso, AreLeftBy};
 
+use crate::column::{first_places, read_column};
 use crate::search::ring_of;
 use ir_plan::Plan;
 use ir_tables::Topology;
@@ -49,61 +50,14 @@ struct Links {
     marks: Vec<Vec<bool>>,
 }
 
-/// The ports of a node by label, none at its own.
-fn ports_by_label(alloc: Global, plan: &Plan, u: u16) -> Result<Vec<Option<u16>>, AllocError>
-    requires { u < node_count plan.now.topology }
-    ensures { IfOk result (λ ports. ArePortsByLabel plan.now u ports.items) }
+/// So many places without a mark.
+fn unmarked(alloc: Global, count: usize) -> Result<Vec<bool>, AllocError>
+    ensures { IfOk result (λ marks. marks.items ≡ replicate count false) }
 {
-    let mut ports = Vec::with_capacity(alloc, plan.nodes())?;
-    for a in 0..plan.nodes() {
-        ports.push(plan.port(u, a as u16))?;
-    }
-    Ok(ports)
+    vec![in alloc; false; count]
 }
 
-/// Marks the port of a node to a label.
-fn mark_port(plan: &Plan, v: u16, a: u16, marks: &mut Vec<bool>)
-    requires plan { IsPlan plan.now }
-    requires node { v < node_count plan.now.topology }
-    requires label { a < node_count plan.now.topology }
-    requires every { length marks.old.items ≡ length (ports_of plan.now.topology v) }
-    ensures { IsMarkedFor plan.now v a marks.old.items marks.new.items }
-{
-    if let Some(q) = plan.port(v, a) {
-        marks[q as usize] = true;
-    }
-}
-
-/// Whether a port is there, and is the one with a number.
-fn goes_by(port: Option<u16>, p: u16) -> bool
-    ensures { IsTrue result ↔ (port ≡ Some p) }
-{
-    port == Some(p)
-}
-
-/// A mark for each port of the node beyond a port of another one: whether what goes that way leaves by it.
-fn onward(
-    alloc: Global,
-    plan: &Plan,
-    ports: &[Option<u16>],
-    p: u16,
-    v: u16,
-) -> Result<Vec<bool>, AllocError>
-    requires every { length ports.now ≡ node_count plan.now.topology }
-    requires node { v < node_count plan.now.topology }
-    ensures { IfOk result (λ marks. (u : ℕ) → ArePortsByLabel plan.now u ports.now
-        → AreOnward plan.now u p v (node_count plan.now.topology) marks.items) }
-{
-    let mut marks = vec![in alloc; false; plan.topology().degree(v)]?;
-    for a in 0..plan.nodes() {
-        if goes_by(ports[a], p) {
-            mark_port(plan, v, a as u16, &mut marks);
-        }
-    }
-    Ok(marks)
-}
-
-/// Adds the links that leave a node.
+/// Adds the links that leave a node, none of which waits for another one yet.
 fn push_links(
     alloc: Global,
     plan: &Plan,
@@ -114,25 +68,24 @@ fn push_links(
     requires plan { IsPlan plan.now }
     requires node { u < node_count plan.now.topology }
     requires first { (nodes : List ℕ) × AreExits plan.now.topology (node_count plan.now.topology) first.now nodes }
-    requires links { AreLinks plan.now.topology (Waits plan.now) links.old.begins.items
+    requires links { AreLinks plan.now.topology (WaitsSoFar plan.now 0 0) links.old.begins.items
         (marks_of links.old.marks.items) (exits_before plan.now.topology u) }
-    ensures { OnOk result (AreLinks plan.now.topology (Waits plan.now) links.new.begins.items
+    ensures { OnOk result (AreLinks plan.now.topology (WaitsSoFar plan.now 0 0) links.new.begins.items
         (marks_of links.new.marks.items) (exits_before plan.now.topology (u + 1))) }
 {
-    let ports = ports_by_label(alloc, plan, u)?;
     for p in 0..plan.topology().degree(u) {
         let next = plan.hop(u, p as u16).node;
-        let marks = onward(alloc, plan, ports.as_slice(), p as u16, next)?;
+        let marks = unmarked(alloc, plan.topology().degree(next))?;
         links.marks.push(marks)?;
         links.begins.push(first[next as usize])?;
     }
     Ok(())
 }
 
-/// The links of a plan's network.
-fn links_of(alloc: Global, plan: &Plan, first: &[u32]) -> Result<Links, AllocError>
+/// The links of a plan's network, none of which waits for another one yet.
+fn still_links(alloc: Global, plan: &Plan, first: &[u32]) -> Result<Links, AllocError>
     requires first { (nodes : List ℕ) × AreExits plan.now.topology (node_count plan.now.topology) first.now nodes }
-    ensures { IfOk result (λ links. AreLinks plan.now.topology (Waits plan.now) links.begins.items
+    ensures { IfOk result (λ links. AreLinks plan.now.topology (WaitsSoFar plan.now 0 0) links.begins.items
         (marks_of links.marks.items) (exits_before plan.now.topology (node_count plan.now.topology))) }
 {
     let mut links = Links {
@@ -141,6 +94,68 @@ fn links_of(alloc: Global, plan: &Plan, first: &[u32]) -> Result<Links, AllocErr
     };
     for u in 0..plan.nodes() {
         push_links(alloc, plan, first, &mut links, u as u16)?;
+    }
+    Ok(links)
+}
+
+/// Marks a place of a row.
+fn mark(row: &mut Vec<bool>, q: usize)
+    requires { q < length row.old.items }
+    ensures { row.new.items ≡ slice_set row.old.items q true }
+{
+    row[q] = true;
+}
+
+/// Marks what the link of a node waits for by which it sends to a label.
+fn mark_way(plan: &Plan, first: &[u32], column: &[Option<u16>], a: u16, u: u16, links: &mut Links)
+    requires plan { IsPlan plan.now }
+    requires label { a < node_count plan.now.topology }
+    requires node { u < node_count plan.now.topology }
+    requires column { IsColumn plan.now a column.now }
+    requires first { (nodes : List ℕ) × AreExits plan.now.topology (node_count plan.now.topology) first.now nodes }
+    requires links { AreLinks plan.now.topology (WaitsSoFar plan.now a u) links.old.begins.items
+        (marks_of links.old.marks.items) (exits_before plan.now.topology (node_count plan.now.topology)) }
+    ensures { AreLinks plan.now.topology (WaitsSoFar plan.now a (u + 1)) links.new.begins.items
+        (marks_of links.new.marks.items) (exits_before plan.now.topology (node_count plan.now.topology)) }
+{
+    if let Some(p) = column[u as usize] {
+        let next = plan.hop(u, p).node;
+        if let Some(q) = column[next as usize] {
+            let link = first[u as usize] as usize + p as usize;
+            mark(&mut links.marks[link], q as usize);
+        }
+    }
+}
+
+/// Marks which links wait for which on the ways to a label.
+fn mark_column(plan: &Plan, first: &[u32], column: &[Option<u16>], a: u16, links: &mut Links)
+    requires plan { IsPlan plan.now }
+    requires label { a < node_count plan.now.topology }
+    requires column { IsColumn plan.now a column.now }
+    requires first { (nodes : List ℕ) × AreExits plan.now.topology (node_count plan.now.topology) first.now nodes }
+    requires links { AreLinks plan.now.topology (WaitsSoFar plan.now a 0) links.old.begins.items
+        (marks_of links.old.marks.items) (exits_before plan.now.topology (node_count plan.now.topology)) }
+    ensures { AreLinks plan.now.topology (WaitsSoFar plan.now (a + 1) 0) links.new.begins.items
+        (marks_of links.new.marks.items) (exits_before plan.now.topology (node_count plan.now.topology)) }
+{
+    for u in 0..plan.nodes() {
+        mark_way(plan, first, column, a, u as u16, links);
+    }
+}
+
+/// The links of a plan's network.
+fn links_of(alloc: Global, plan: &Plan, first: &[u32]) -> Result<Links, AllocError>
+    requires first { (nodes : List ℕ) × AreExits plan.now.topology (node_count plan.now.topology) first.now nodes }
+    ensures { IfOk result (λ links. AreLinks plan.now.topology (Waits plan.now) links.begins.items
+        (marks_of links.marks.items) (exits_before plan.now.topology (node_count plan.now.topology))) }
+{
+    plan.invariant();
+    let mut links = still_links(alloc, plan, first)?;
+    let mut places = first_places(alloc, plan)?;
+    let mut column = vec![in alloc; None; plan.nodes()]?;
+    for a in 0..plan.nodes() {
+        read_column(plan, a as u16, &mut places, &mut column);
+        mark_column(plan, first, column.as_slice(), a as u16, &mut links);
     }
     Ok(links)
 }

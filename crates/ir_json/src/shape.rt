@@ -19,6 +19,10 @@ pub enum Shape {
     Compare,
     /// The figures of a plan, and of those without each link.
     Failures,
+    /// The same without each node.
+    Losses,
+    /// What nodes change between two plans.
+    Diff,
     /// The prefixes of a plan's nodes.
     Prefixes,
     /// The ranges of a plan's nodes.

@@ -12,6 +12,7 @@ returns c =
     let old = string_bytes c.args.text.now in
     let a = string_bytes c.push_str.new.self in
     let b = string_bytes c.push_word.new.text in
+    let k = string_bytes c.push_word-2.new.text in
     let d = string_bytes c.push_next_number.new.text in
     let e = string_bytes c.push_next_number-2.new.text in
     let f = string_bytes c.push_figures.new.text in
@@ -20,10 +21,11 @@ returns c =
     (λ end. (
       told.0,
       told.1,
-      head_told old a b d e f g (kind_text s.kind) (decimal (node_count s.topology)) (decimal (length s.topology.links)) told.0
+      head_told old a b k d e f g c.args.what.now (kind_text s.kind) (decimal (node_count s.topology)) (decimal (length s.topology.links)) told.0
           c.in_ok-push_str.ensures.bytes
-          (c.in_ok-push_word.ensures ∙ ap (λ (t : List ℕ). a ++ spaced t) (c.kind_text.ensures ∙ ap kind_text c.kind.ensures))
-          (c.in_ok-push_next_number.ensures ∙ ap (λ (n : ℕ). b ++ spaced (decimal n)) c.nodes.ensures.count)
+          c.in_ok-push_word.ensures
+          (c.in_ok-push_word-2.ensures ∙ ap (λ (t : List ℕ). b ++ spaced t) (c.kind_text.ensures ∙ ap kind_text c.kind.ensures))
+          (c.in_ok-push_next_number.ensures ∙ ap (λ (n : ℕ). k ++ spaced (decimal n)) c.nodes.ensures.count)
           (c.in_ok-push_next_number-2.ensures ∙ ap (λ (n : ℕ). d ++ spaced (decimal n)) (c.links.ensures.count ∙ ap (λ (net : Topology). length net.links) c.topology.ensures))
           told.2 end,
     ))

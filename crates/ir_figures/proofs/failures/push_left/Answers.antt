@@ -1,21 +1,26 @@
-use Rattle.std.proofs.Common.{inl, inr, ◌∷◌, [], codes, refl, subst, Option}
-use Rattle.std.specs.Prelude.{IfNone, IfSome}
-use Rattle.ir_model.specs.Walk.{IsDisconnected}
-use Rattle.ir_model.specs.Plan.{Plan}
-use Rattle.ir_plan.specs.Building.{IsPlanBy}
+use Rattle.ir_plan.specs.Building.{labelling_of}
 use Rattle.ir_figures.specs.Failures.{labelling_left, without_link}
 use Rattle.ir_figures.proofs.Results.{on_ok_then}
+use Rattle.ir_figures.proofs.FailureLines.{may_label_left, has_root_left, words_over}
 use Rattle.ir_figures.proofs.failures.push_left.Goals as goal
 
-pub returns-in-Some : goal.returns-in-Some
-returns-in-Some c =
-    let s = c.args.plan.now in
-    let P : Plan → Type 0 = IsPlanBy (without_link s.topology c.args.l) s.kind (labelling_left s c.args.order) in
-    let left : P c.in-Some.left = subst (λ (found : Option Plan). IfSome found P) c.in-Some.is c.in_ok-found.ensures.plan in
-    on_ok_then c.push_figures.result (λ told. (told.0, inl (c.in-Some.left, left, told.1), told.2)) c.push_figures.ensures
+pub push_plan-requires-labels : goal.push_plan-requires-labels
+push_plan-requires-labels c =
+    let plan = c.args.plan.now in
+    may_label_left plan c.args.order c.args.l c.in_ok-left.left c.kind.result (labelling_of c.in_ok-labels.labels) c.invariant.ensures.plan c.in_ok-left.ensures c.kind.ensures c.in_ok-labels.ensures
 
-pub returns-in-None : goal.returns-in-None
-returns-in-None c =
-    let s = c.args.plan.now in
-    let cut : IsDisconnected (without_link s.topology c.args.l) = subst (λ (found : Option Plan). IfNone found (IsDisconnected (without_link s.topology c.args.l))) c.in-None.is c.in_ok-found.ensures.cut in
-    on_ok_then c.push_word.result (λ told. (codes "disconnected" ∷ [], inr (cut, refl), told)) c.push_word.ensures
+pub push_plan-requires-root : goal.push_plan-requires-root
+push_plan-requires-root c =
+    let plan = c.args.plan.now in
+    λ some. has_root_left plan c.args.order c.args.l c.in_ok-left.left (labelling_of c.in_ok-labels.labels) c.invariant.ensures.plan c.in_ok-left.ensures c.in_ok-labels.ensures
+
+pub returns : goal.returns
+returns c =
+    let plan = c.args.plan.now in
+    on_ok_then c.push_plan.result
+    (λ told. (
+      told.0,
+      words_over (without_link plan.topology c.args.l) c.in_ok-left.left plan.kind c.kind.result (labelling_left plan c.args.order) (labelling_of c.in_ok-labels.labels) told.0 c.in_ok-left.ensures c.kind.ensures c.in_ok-labels.ensures told.1,
+      told.2,
+    ))
+    c.push_plan.ensures

@@ -1,0 +1,6 @@
+use Rattle.ir_figures.specs.Arcs.{marks_of}
+use Rattle.ir_figures.specs.Exits.{exits_before, AreLinks, WaitsSoFar}
+use Rattle.ir_figures.proofs.waits.still_links.Given as goal
+
+abbrev pub invariant-loop-u : goal.invariant-loop-u
+invariant-loop-u l = AreLinks l.plan.topology (WaitsSoFar l.plan 0 0) l.links.begins.items (marks_of l.links.marks.items) (exits_before l.plan.topology l.u)
