@@ -1,5 +1,5 @@
 -- Words that mean the same of one subcommand, with its options, flags and files, keep the same rules.
-use Rattle.std.proofs.Common.{◌≡◌, ◌≢◌, ◌∙◌, ◌==◌, ◌&&◌, ◌||◌, ℕ, Bool, true, false, not, List, map, length, Option, Some, None, refl, sym, ap, ap₂, string_bytes, codes, bytes_eq, is_some, option_map, true≢false}
+use Rattle.std.proofs.Common.{◌≡◌, ◌≢◌, ◌⊎◌, inl, inr, ◌∙◌, ◌==◌, ◌&&◌, ◌||◌, ℕ, Bool, true, false, not, List, map, length, Option, Some, None, refl, sym, ap, ap₂, string_bytes, codes, bytes_eq, is_some, option_map, true≢false}
 use Rattle.std.specs.Prelude.{if◌then◌else◌}
 use Rattle.std.proofs.lemmas.List.{length-map}
 use Rattle.std.proofs.lemmas.Slice.Eq.{bytes_eq-Decides}
@@ -10,12 +10,12 @@ use Rattle.ir_cli.specs.Kinds.{is_landmark}
 use Rattle.ir_cli.specs.declared.words.Sub.{Sub}
 use Rattle.ir_cli.specs.declared.words.Sub.TheVariants as subs
 use Rattle.ir_cli.specs.declared.words.NumberingChoice.{NumberingChoice}
-use Rattle.ir_cli.specs.declared.words.NumberingChoice.TheVariants.{DepthFirst, Tour, Keep, File}
+use Rattle.ir_cli.specs.declared.words.NumberingChoice.TheVariants.{DepthFirst, Tour, Keep, KeepDepthFirst, File}
 use Rattle.ir_cli.specs.declared.words.Second.{Second}
 use Rattle.ir_cli.specs.declared.words.Span.{Span}
 use Rattle.ir_cli.specs.declared.words.Words.{Words}
 use Rattle.ir_cli.specs.Words.{AreTaken, FitsItsKind, alike, are_named, has_its_files, has_order, is_dash, is_file, has_landmark, has_script, is_no_dash, may_go_round, takes_detour, takes_drawing, takes_each, takes_list, takes_nodes, takes_numbering, texts_wanted}
-use Rattle.ir_cli.specs.Meaning.{AreNodes, HasItsNodes, HasItsSecond, HasWhatIsAsked, IsNumbering, IsSecond, IsKindWord, Means, first_kind, keeps, nodes_word, second_kind, numbering_word, second_word}
+use Rattle.ir_cli.specs.Meaning.{AreNodes, HasItsNodes, HasItsSecond, HasWhatIsAsked, IsNoKeeping, IsNumbering, IsSecond, IsKindWord, Means, first_kind, keeps, nodes_word, second_kind, numbering_word, second_word}
 use Rattle.ir_cli.specs.CommandLine.{sub_word}
 
 -- ---- what a word says
@@ -77,7 +77,7 @@ other_text a b other = go (bytes_eq a b) refl
 
 -- a word that keeps labels
 abbrev keeps_by : Bool → Text → Bool
-keeps_by kept word = kept && bytes_eq word (codes "keep")
+keeps_by kept word = kept && (bytes_eq word (codes "keep") || (bytes_eq word (codes "keep,tour") || bytes_eq word (codes "keep,depth-first")))
 
 abbrev numbering_by : Bool → Text → KindChoice → Bool → Bool
 numbering_by kept word kind has_root =
@@ -89,22 +89,26 @@ abbrev file_by : Bool → Text → Bool
 file_by kept word =
     if bytes_eq word (codes "depth-first") then false else if bytes_eq word (codes "tour") then false else if keeps_by kept word then false else true
 
-not_kept : (kept : Bool) (word : Text) → (kept ≡ true → word ≢ codes "keep") → keeps_by kept word ≡ false
-not_kept true word other = other_text word (codes "keep") (other refl)
+not_kept : (kept : Bool) (word : Text) → (kept ≡ true → IsNoKeeping word) → keeps_by kept word ≡ false
+not_kept true word other = rw (other_text word (codes "keep") (other refl).0, other_text word (codes "keep,tour") (other refl).1, other_text word (codes "keep,depth-first") (other refl).2) refl
 not_kept false word other = refl
 
 numbering_by_word : (sub : Sub) (numbering : NumberingChoice) (word : Text) (kind : KindChoice) (has_root : Bool) → IsNumbering sub numbering word
     → takes_numbering numbering kind has_root ≡ numbering_by (keeps sub) word kind has_root
 numbering_by_word sub DepthFirst word kind has_root is = sym (ap (λ w. numbering_by (keeps sub) w kind has_root) is)
 numbering_by_word sub Tour word kind has_root is = sym (ap (λ w. numbering_by (keeps sub) w kind has_root) is)
-numbering_by_word sub Keep word kind has_root is = sym (ap₂ (λ kept w. numbering_by kept w kind has_root) is.1 is.0)
+numbering_by_word sub Keep word kind has_root (inl is, may) = sym (ap₂ (λ kept w. numbering_by kept w kind has_root) may is)
+numbering_by_word sub Keep word kind has_root (inr is, may) = sym (ap₂ (λ kept w. numbering_by kept w kind has_root) may is)
+numbering_by_word sub KeepDepthFirst word kind has_root is = sym (ap₂ (λ kept w. numbering_by kept w kind has_root) is.1 is.0)
 numbering_by_word sub (File name) word kind has_root is =
     rw (other_text word (codes "depth-first") is.1, other_text word (codes "tour") is.2, not_kept (keeps sub) word is.3) (ap (λ w. is_no_dash w && not has_root) (sym is.0))
 
 file_by_word : (sub : Sub) (numbering : NumberingChoice) (word : Text) → IsNumbering sub numbering word → is_file numbering ≡ file_by (keeps sub) word
 file_by_word sub DepthFirst word is = sym (ap (file_by (keeps sub)) is)
 file_by_word sub Tour word is = sym (ap (file_by (keeps sub)) is)
-file_by_word sub Keep word is = sym (ap₂ file_by is.1 is.0)
+file_by_word sub Keep word (inl is, may) = sym (ap₂ file_by may is)
+file_by_word sub Keep word (inr is, may) = sym (ap₂ file_by may is)
+file_by_word sub KeepDepthFirst word is = sym (ap₂ file_by is.1 is.0)
 file_by_word sub (File name) word is =
     rw (other_text word (codes "depth-first") is.1, other_text word (codes "tour") is.2, not_kept (keeps sub) word is.3) refl
 

@@ -84,7 +84,7 @@ name_of Bentzolu = codes "bentzolu"
 abbrev pub AreTheirWords : Choices → Type 0
 AreTheirWords choices = (texts choices.formats.now ≡ codes "adjlist" ∷ codes "edgelist" ∷ [])
     × (texts choices.kinds.now ≡ codes "tree" ∷ codes "shortest" ∷ codes "compact" ∷ codes "landmark" ∷ [])
-    × (texts choices.numberings.now ≡ codes "depth-first" ∷ codes "tour" ∷ [])
+    × (texts choices.numberings.now ≡ codes "depth-first" ∷ codes "tour" ∷ codes "keep" ∷ codes "keep,tour" ∷ codes "keep,depth-first" ∷ [])
     × (texts choices.keepings.now ≡ codes "depth-first" ∷ codes "tour" ∷ codes "keep" ∷ [])
     × (texts choices.parts.now ≡ codes "table" ∷ [])
     × (texts choices.eaches.now ≡ codes "links" ∷ [])

@@ -1,5 +1,5 @@
 -- What the words behind the program's name mean, field by field.
-use Rattle.std.specs.Prelude.{◌≡◌, ◌≢◌, ◌≤◌, ◌<◌, ◌^◌, ◌==◌, ℕ, Bool, true, false, not, ◌&&◌, ◌||◌, is_some, if◌then◌else◌, List, [], ◌∷◌, ◌++◌, map, Option, Some, None, MatchOption, unwrap_or, option_map, option_to_list, bytes_eq, codes, string_bytes}
+use Rattle.std.specs.Prelude.{◌≡◌, ◌≢◌, ◌⊎◌, ◌≤◌, ◌<◌, ◌^◌, ◌==◌, ℕ, Bool, true, false, not, ◌&&◌, ◌||◌, is_some, if◌then◌else◌, List, [], ◌∷◌, ◌++◌, map, Option, Some, None, MatchOption, unwrap_or, option_map, option_to_list, bytes_eq, codes, string_bytes}
 use Rattle.std.specs.Option.{option_map_or, option_or}
 use Rattle.std.specs.List.{list_any, before_first, after_first}
 use Rattle.std.specs.Str.Parse.{IsNumeral, digits_value, without_leading_plus}
@@ -12,11 +12,11 @@ use Rattle.ir_cli.specs.declared.kinds.KindChoice.TheVariants.{Tree, Shortest, C
 use Rattle.ir_cli.specs.declared.words.Format.{Format}
 use Rattle.ir_cli.specs.declared.words.Format.TheVariants.{AdjList, EdgeList}
 use Rattle.ir_cli.specs.declared.words.NumberingChoice.{NumberingChoice}
-use Rattle.ir_cli.specs.declared.words.NumberingChoice.TheVariants.{DepthFirst, Tour, Keep, File}
+use Rattle.ir_cli.specs.declared.words.NumberingChoice.TheVariants.{DepthFirst, Tour, Keep, KeepDepthFirst, File}
 use Rattle.ir_cli.specs.declared.words.Second.{Second}
 use Rattle.ir_cli.specs.declared.words.Span.{Span}
 use Rattle.ir_cli.specs.declared.words.Sub.{Sub}
-use Rattle.ir_cli.specs.declared.words.Sub.TheVariants.{Diff}
+use Rattle.ir_cli.specs.declared.words.Sub.TheVariants.{Diff, Sim, Live, Check}
 use Rattle.ir_cli.specs.declared.words.Words.{Words}
 use Rattle.ir_cli.specs.Words.{format_of_name}
 use Rattle.ir_cli.specs.declared.help.Called.{Called}
@@ -42,15 +42,23 @@ first_kind rows = unwrap_or (first_of (codes "kind") rows) (codes "shortest")
 -- the subcommand may keep labels
 abbrev pub keeps : Sub → Bool
 keeps Diff = true
+keeps Sim = true
+keeps Live = true
+keeps Check = true
 keeps sub = false
+
+-- the word keeps no labels
+abbrev pub IsNoKeeping : Text → Type 0
+IsNoKeeping word = (word ≢ codes "keep") × (word ≢ codes "keep,tour") × (word ≢ codes "keep,depth-first")
 
 -- a word that names no order of its own is the name of a file
 abbrev pub IsNumbering : Sub → NumberingChoice → Text → Type 0
 IsNumbering sub DepthFirst word = word ≡ codes "depth-first"
 IsNumbering sub Tour word = word ≡ codes "tour"
-IsNumbering sub Keep word = (word ≡ codes "keep") × (keeps sub ≡ true)
+IsNumbering sub Keep word = ((word ≡ codes "keep") ⊎ (word ≡ codes "keep,tour")) × (keeps sub ≡ true)
+IsNumbering sub KeepDepthFirst word = (word ≡ codes "keep,depth-first") × (keeps sub ≡ true)
 IsNumbering sub (File name) word =
-    (word ≡ string_bytes name) × (word ≢ codes "depth-first") × (word ≢ codes "tour") × (keeps sub ≡ true → word ≢ codes "keep")
+    (word ≡ string_bytes name) × (word ≢ codes "depth-first") × (word ≢ codes "tour") × (keeps sub ≡ true → IsNoKeeping word)
 
 -- the word that numbers the nodes
 abbrev pub numbering_word : List Row → Text

@@ -16,7 +16,7 @@ use Rattle.ir_core.specs.declared.event.OpenError.TheVariants.{Empty, NoNode}
 use Rattle.ir_cli.specs.declared.words.Format.{Format}
 use Rattle.ir_cli.specs.declared.words.Format.TheVariants.{AdjList, EdgeList}
 use Rattle.ir_cli.specs.declared.words.NumberingChoice.{NumberingChoice}
-use Rattle.ir_cli.specs.declared.words.NumberingChoice.TheVariants.{DepthFirst, Tour, Keep, File}
+use Rattle.ir_cli.specs.declared.words.NumberingChoice.TheVariants.{DepthFirst, Tour, Keep, KeepDepthFirst, File}
 use Rattle.ir_cli.specs.declared.words.Words.{Words}
 use Rattle.ir_cli.specs.Kinds.{detour_of, kind_of}
 use Rattle.ir_cli.specs.Answer.{Answer, Refused}
@@ -46,7 +46,14 @@ abbrev pub label_order : NumberingChoice → LabelOrder
 label_order DepthFirst = orders.DepthFirst
 label_order Tour = orders.Tour
 label_order Keep = orders.Tour
+label_order KeepDepthFirst = orders.DepthFirst
 label_order (File name) = orders.DepthFirst
+
+-- the installs of a run keep the order of the epoch before
+abbrev pub keeps_order : NumberingChoice → Bool
+keeps_order Keep = true
+keeps_order KeepDepthFirst = true
+keeps_order _ = false
 
 -- the kind that the words ask for, of plans of so many nodes
 abbrev pub kind_asked : Words → ℕ → Kind
@@ -57,6 +64,7 @@ abbrev pub opening_by : Words → Topology → ℕ → Opening
 opening_by words net root = record {
   topology = net;
   labels = label_order words.numbering;
+  keeps = keeps_order words.numbering;
   kind = kind_asked words (node_count net);
   root = root;
   capacity = words.capacity;

@@ -9,7 +9,7 @@ use Rattle.ir_cli.specs.declared.words.Second.{Second}
 use Rattle.ir_cli.specs.declared.words.Sub.{Sub}
 use Rattle.ir_cli.specs.declared.words.Sub.TheVariants.{Diff, Sim, Live, Check}
 use Rattle.ir_cli.specs.declared.words.NumberingChoice.{NumberingChoice}
-use Rattle.ir_cli.specs.declared.words.NumberingChoice.TheVariants.{DepthFirst, Tour, Keep, File}
+use Rattle.ir_cli.specs.declared.words.NumberingChoice.TheVariants.{DepthFirst, Tour, Keep, KeepDepthFirst, File}
 use Rattle.ir_cli.specs.declared.words.Words.{Words}
 use Rattle.ir_cli.specs.declared.words.Format.{Format}
 use Rattle.ir_cli.specs.declared.words.Format.TheVariants.{AdjList, EdgeList}
@@ -37,6 +37,7 @@ order_name (File name) = string_bytes name
 order_name DepthFirst = codes "-"
 order_name Tour = codes "-"
 order_name Keep = codes "-"
+order_name KeepDepthFirst = codes "-"
 
 -- a name ends in these letters
 abbrev pub ends_in : Name → Name → Bool
@@ -80,6 +81,7 @@ abbrev pub takes_numbering : NumberingChoice → KindChoice → Bool → Bool
 takes_numbering DepthFirst kind has_root = true
 takes_numbering Tour kind has_root = takes_list kind
 takes_numbering Keep kind has_root = takes_list kind
+takes_numbering KeepDepthFirst kind has_root = takes_list kind
 takes_numbering (File name) kind has_root = is_no_dash (string_bytes name) && not has_root
 
 abbrev pub has_its_numbering : Words → Bool
@@ -137,6 +139,7 @@ abbrev pub is_file : NumberingChoice → Bool
 is_file DepthFirst = false
 is_file Tour = false
 is_file Keep = false
+is_file KeepDepthFirst = false
 is_file (File name) = true
 
 abbrev pub has_order : Words → Bool

@@ -20,7 +20,7 @@ static FORMATS: [&str; 2] = ["adjlist", "edgelist"];
 
 static KINDS: [&str; 4] = ["tree", "shortest", "compact", "landmark"];
 
-static NUMBERINGS: [&str; 2] = ["depth-first", "tour"];
+static NUMBERINGS: [&str; 5] = ["depth-first", "tour", "keep", "keep,tour", "keep,depth-first"];
 
 static KEEPINGS: [&str; 3] = ["depth-first", "tour", "keep"];
 

@@ -87,7 +87,9 @@ fn numbering_fault(words: &Words) -> Option<&'static str>
     ensures { MatchOption result (has_its_numbering words.now ≡ true) (λ _. has_its_numbering words.now ≡ false) }
 {
     match &words.numbering {
-        NumberingChoice::Tour | NumberingChoice::Keep => list_fault(words.kind),
+        NumberingChoice::Tour | NumberingChoice::Keep | NumberingChoice::KeepDepthFirst => {
+            list_fault(words.kind)
+        }
         NumberingChoice::File(name) if name.as_str() == "-" => {
             Some("'--numbering' takes 'depth-first', 'tour' or a file name, not '-'")
         }

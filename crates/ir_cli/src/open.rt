@@ -3,7 +3,7 @@ ghost use Rattle.std.specs.Prelude.{◌≡◌, ◌<◌, ◌^◌, None, IfOk, IfE
 ghost use Rattle.std.specs.Option.{option_map};
 ghost use Rattle.ir_model.specs.{Graph.names, Text.lines};
 ghost use Rattle.ir_adjlist.specs.Told.{Tells};
-ghost use Rattle.ir_cli.specs.Openings.{topology_fault, topology_graph, root_in, no_root, kind_asked, label_order, opening_by};
+ghost use Rattle.ir_cli.specs.Openings.{topology_fault, topology_graph, root_in, no_root, kind_asked, label_order, keeps_order, opening_by};
 
 use crate::words::{Format, NumberingChoice, Words};
 use ir_adjlist::{TextError, parse_adjlist, parse_weighted_edgelist};
@@ -55,7 +55,19 @@ pub fn label_order(numbering: &NumberingChoice) -> LabelOrder
 {
     match numbering {
         NumberingChoice::Tour | NumberingChoice::Keep => LabelOrder::Tour,
-        NumberingChoice::DepthFirst | NumberingChoice::File(_) => LabelOrder::DepthFirst,
+        NumberingChoice::DepthFirst
+        | NumberingChoice::KeepDepthFirst
+        | NumberingChoice::File(_) => LabelOrder::DepthFirst,
+    }
+}
+
+/// Whether the installs of a run keep the order of the epoch before.
+pub fn keeps_order(numbering: &NumberingChoice) -> bool
+    ensures { result ≡ keeps_order numbering.now }
+{
+    match numbering {
+        NumberingChoice::Keep | NumberingChoice::KeepDepthFirst => true,
+        NumberingChoice::DepthFirst | NumberingChoice::Tour | NumberingChoice::File(_) => false,
     }
 }
 
@@ -80,6 +92,7 @@ pub fn opening_of(
     Ok(Opening {
         topology: topology.try_clone(alloc)?,
         labels: label_order(&words.numbering),
+        keeps: keeps_order(&words.numbering),
         kind: kind_asked(words, topology.nodes()),
         root,
         capacity: words.capacity,

@@ -203,7 +203,7 @@ const BINARY: Taken = taken!("binary", None, Accepts::Nothing, Need::Free
 // A run, and its check.
 const RUN_ORDER: Taken =
     taken!("numbering", Some('n'), Accepts::WordOf("NUMBERING", Choice::Numbering), Need::Else("depth-first")
-    => "Number the nodes of each plan depth-first from its root, or along a tour (often fewer intervals)");
+    => "Number the nodes of each plan depth-first from its root, or along a tour (often fewer intervals); or keep those of the first plan");
 
 const CAPACITY: Taken =
     taken!("capacity", None, Accepts::Number("C", 1, MAX_CAPACITY as u16), Need::Else(DEFAULT_CAPACITY)

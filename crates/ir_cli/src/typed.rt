@@ -222,7 +222,7 @@ fn format_of(found: &ArgMatches<'_>, place: &str) -> Option<Format>
 fn keeps(sub: Sub) -> bool
     ensures { result ≡ keeps sub }
 {
-    matches!(sub, Sub::Diff)
+    matches!(sub, Sub::Diff | Sub::Sim | Sub::Live | Sub::Check)
 }
 
 /// The numbering that is asked for.
@@ -236,7 +236,8 @@ pub fn numbering_of(
     match typed(found, "numbering").unwrap_or("depth-first") {
         "depth-first" => Ok(NumberingChoice::DepthFirst),
         "tour" => Ok(NumberingChoice::Tour),
-        "keep" if keeps(sub) => Ok(NumberingChoice::Keep),
+        "keep" | "keep,tour" if keeps(sub) => Ok(NumberingChoice::Keep),
+        "keep,depth-first" if keeps(sub) => Ok(NumberingChoice::KeepDepthFirst),
         file => Ok(NumberingChoice::File(String::from_str(alloc, file)?)),
     }
 }

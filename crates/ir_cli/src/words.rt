@@ -56,6 +56,8 @@ pub enum NumberingChoice {
     Tour,
     /// In the order of the plan before, of which the first goes along a tour.
     Keep,
+    /// In the order of the plan before, of which the first is depth first.
+    KeepDepthFirst,
     /// In the order of a file of this name; the root is the first node of it.
     File(String),
 }
@@ -164,7 +166,10 @@ impl Words {
     {
         match &self.numbering {
             NumberingChoice::File(name) => name.as_str(),
-            NumberingChoice::DepthFirst | NumberingChoice::Tour | NumberingChoice::Keep => "-",
+            NumberingChoice::DepthFirst
+            | NumberingChoice::Tour
+            | NumberingChoice::Keep
+            | NumberingChoice::KeepDepthFirst => "-",
         }
     }
 
