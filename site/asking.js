@@ -17,9 +17,9 @@ export const desk = new Desk(bytesOf(byId("module").textContent), byId("worker")
 // What a click on a node and on a link does, as the tools say it, and on a button beside a sentence.
 export const clicks = { onNode: () => {}, onSet: () => {} };
 
-// The words of a plan of what is chosen.
-export function planWords() {
-  const { kind, format, numbering, root } = store.now, words = ["--kind", kind, "--format", format];
+// The words of a plan of what is chosen. Labels that are kept are at first a tour's.
+export function planWords(numbering = store.now.numbering === "keep" ? "tour" : store.now.numbering) {
+  const { kind, format, root } = store.now, words = ["--kind", kind, "--format", format];
   if (kind === "landmark") words.push(...landmarkWords(store.now));
   else if (numbering !== "depth-first") words.push("--numbering", numbering);
   if (root !== "") words.push("--root", root);
@@ -28,7 +28,7 @@ export function planWords() {
 
 function runWords() {
   const further = store.now.kind !== "landmark" && store.now.takesLandmarks ? landmarkWords(store.now) : [];
-  return [...planWords(), ...further, "--capacity", store.now.capacity, "--restamps", store.now.restamps];
+  return [...planWords(store.now.numbering), ...further, "--capacity", store.now.capacity, "--restamps", store.now.restamps];
 }
 
 function keepText(name, text) {
@@ -114,10 +114,22 @@ export function askWalk() {
 
 // The words and the text of an order by which the engine need not look for a tour again.
 export function knownWords() {
-  const { numbering, plan, graph } = store.now, words = planWords(), at = words.indexOf("tour");
-  if (numbering !== "tour" || !plan || !isNumbered(store.now.kind)) return { words, order: [] };
+  const { plan, graph } = store.now, words = planWords(), at = words.indexOf("tour");
+  if (at < 0 || !plan || !isNumbered(store.now.kind)) return { words, order: [] };
   words[at] = "order";
-  return { words, order: [graph.names.map((name, u) => [plan.rows[u].label, name]).sort(([a], [b]) => a - b).map(([, name]) => name).join("\n") + "\n"] };
+  return { words, order: [orderText(graph, plan)] };
+}
+
+// The names of the nodes by label, a line each.
+function orderText(graph, plan) {
+  return graph.names.map((name, u) => [plan.rows[u].label, name]).sort(([a], [b]) => a - b).map(([, name]) => name).join("\n") + "\n";
+}
+
+// How the plan of an install is numbered: the words, and the text of the order that it keeps.
+function installWords(moment, kind, root) {
+  const { numbering, graph, plans } = store.now, before = plans[moment.epochs - 2];
+  if (numbering === "keep" && moment.name === "install" && isNumbered(kind) && before) return { words: ["--numbering", "order"], order: [orderText(graph, before)] };
+  return { words: ["--root", root, ...(numbering !== "depth-first" && isNumbered(kind) ? ["--numbering", "tour"] : [])], order: [] };
 }
 
 function chooseRow(set) {
@@ -238,12 +250,13 @@ function takeRun(trace, commands, steps) {
 
 // The plans of the epochs that a script makes, by which a packet's intervals are shown.
 async function askEpochs() {
-  const { moments, graph, format, numbering, topology } = store.now;
-  const installs = moments.filter(moment => moment.name === "install" && !moment.refused).slice(0, 15);
+  const { moments, graph, format, topology } = store.now;
+  const installs = moments.filter(moment => ["install", "renumber"].includes(moment.name) && !moment.refused).slice(0, 15);
   for (const moment of installs) {
     const [, kind, root] = moment.text.split(" "), text = textWithout(graph, format, moment.down);
-    const words = ["plan", "--kind", kind, "--root", root, "--format", format, ...(numbering === "tour" && isNumbered(kind) ? ["--numbering", "tour"] : []), ...(kind === "landmark" ? landmarkWords(store.now) : [])];
-    const answer = await desk.ask("epoch", [...words, "topology"], moment.down.size === 0 ? topology : text);
+    const numbered = installWords(moment, kind, root);
+    const words = ["plan", "--kind", kind, "--format", format, ...numbered.words, ...(kind === "landmark" ? landmarkWords(store.now) : [])];
+    const answer = await desk.ask("epoch", [...words, "topology"], moment.down.size === 0 ? topology : text, ...numbered.order);
     if (!answer || store.now.moments !== moments) return;
     if (answer.status !== 0) continue;
     const plans = [...store.now.plans];

@@ -69,7 +69,7 @@ export function breakLines(graph, { down, epochs }, edge, kind, root) {
 // first of them at `line`, and what comes after, in which later epochs have one number more for each epoch that is new.
 export function scriptAt({ graph, rows, commands, steps }, step, lines) {
   const player = new Player(graph, rows, commands, steps), now = momentAt(player.moments, step), done = player.linesUpTo(step);
-  const more = lines.filter(line => line.startsWith("install ")).length;
+  const more = lines.filter(line => /^(install|renumber) /.test(line)).length;
   const isOver = command => command.name === "drain" ? player.drained.get(command.line) <= step : player.lines.some(it => it.number === command.line && it.step <= step);
   const rest = commands.filter(command => !isOver(command)).map(({ name, text, given }) =>
     (name === "learn" || name === "retire") && given[0] > now.epochs ? `${name} ${given[0] + more}` : text);

@@ -122,7 +122,7 @@ export class Player {
     else if (it.refused !== undefined) this.change(command, "refused: " + it.refused, {}, true);
     else if (name === "inject") this.inject(command, it);
     else if (name === "act") this.act(command, it);
-    else if (name === "install") this.change(command, `epoch ${it.epoch} begins`, { epochs: it.epoch });
+    else if (name === "install" || name === "renumber") this.change(command, `epoch ${it.epoch} begins`, { epochs: it.epoch });
     else if (name === "retire") this.change(command, `the epochs below ${it.epoch} are retired`, { floor: it.epoch });
     else if (name === "learn") this.change(command, `the injector knows epoch ${it.epoch}`, {});
     else this.mark(command, it);

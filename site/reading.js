@@ -156,7 +156,7 @@ export function readTrace(text, graph) {
 // What follows the first word of each line of a script: a node, a fixed word, a number; `kind` is a kind of plan.
 export const COMMANDS = {
   inject: ["node", "node"], drain: [], down: ["node", "node"], up: ["node", "node"], avoid: ["node", "node"],
-  heed: ["node", "node"], install: ["kind", "node"], retire: ["number"],
+  heed: ["node", "node"], install: ["kind", "node"], renumber: ["kind", "node"], retire: ["number"],
   learn: ["number"], read: ["node", "number"], act: ["node"], take: ["node", "from", "node"], "take inbox": ["node", "inbox"],
 };
 

@@ -18,6 +18,8 @@ VARIABLE = "BENTZOLU_LIBRARY"
 BESIDE = pathlib.Path(__file__).resolve().parent / "libbentzolu.so"
 OF_SYSTEM = "libbentzolu.so.1"
 SUBCOMMANDS = ("plan", "walk", "stats", "compare", "draw", "prefixes", "ranges", "xdp", "sim", "check")
+KEPT = ("keep", "keep,tour", "keep,depth-first")  # what names labels that are kept
+KEEPING = ("diff", "sim", "check")  # the subcommands that keep them
 OWN_TEXT = ("-h", "--help", "-V", "--version")  # words whose text the library gives as faults
 FIRST_ROOM, FAULT_ROOM = 1 << 20, 1 << 14
 
@@ -97,7 +99,7 @@ def is_chosen(program: str | os.PathLike[str] | None, timeout: float | None) -> 
 
 
 def orders(words: Sequence[str]) -> list[str]:
-    """What words of `--numbering` or `-n` name: `depth-first`, `tour`, or the file of an order."""
+    """What words of `--numbering` or `-n` name: `depth-first`, `tour`, labels that are kept, or the file of an order."""
     found: list[str] = []
     for word, after in zip(words, [*words[1:], ""]):
         for option in ("--numbering", "-n"):
@@ -110,7 +112,8 @@ def orders(words: Sequence[str]) -> list[str]:
 
 def order_of(words: Sequence[str]) -> str | None:
     """The file of an order of nodes that words name; None where they name none."""
-    return next((it for it in orders(words) if it not in ("depth-first", "tour")), None)
+    own = ("depth-first", "tour", *(KEPT if words[0] in KEEPING else ()))
+    return next((it for it in orders(words) if it not in own), None)
 
 
 def takes(words: Sequence[str], texts: Texts) -> bool:

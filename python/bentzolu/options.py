@@ -30,7 +30,8 @@ class Options:
         Seconds, after which `subprocess.TimeoutExpired` is raised. A call with it goes to the program.
     numbering : str or path, optional
         How nodes are numbered: `"depth-first"` (the default), `"tour"`, which often takes fewer intervals, or the path of a file
-        that lists the nodes in order.
+        that lists the nodes in order. For `simulate`, `live` and `check` also `"keep"`: each install keeps the labels of the epoch
+        before, and the first are a tour's, or depth first with `"keep,depth-first"`.
     words : sequence of str
         Further words of the command line, as `("--threads", "1")`.
     landmarks : int, optional

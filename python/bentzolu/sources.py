@@ -16,7 +16,7 @@ from .typed import NameTable, Network, NodeNames, Text
 OPERANDS: dict[str, tuple[str, ...]] = {
     "inject": ("node", "node"), "drain": (), "down": ("node", "node"), "up": ("node", "node"),
     "avoid": ("node", "node"), "heed": ("node", "node"), "install": ("word", "node"),
-    "retire": ("number",), "learn": ("number",), "read": ("node", "number"), "act": ("node",),
+    "renumber": ("word", "node"), "retire": ("number",), "learn": ("number",), "read": ("node", "number"), "act": ("node",),
 }
 OWN = (None, "adjlist", "edgelist")  # the formats that `bentzolu` reads itself, and one that is not known
 

@@ -46,6 +46,7 @@ Lines of a script ('learn', 'take', 'read' and 'act' are for 'sim' only):
   install shortest R  The same, with shortest paths
   install compact R   The same, with the shortest paths that need the fewest intervals
   install landmark R  The same, with paths by way of --landmarks, of at most --stretch percent of the distance
+  renumber KIND R     Install such a plan with new labels, where --numbering keep would keep the old ones
   retire F            Retire the epochs below F
   learn E             Let the injector learn epoch E; it stamps packets with the greatest epoch that it learnt
   take N inbox        Let node N take the first packet of its inbox into its hand
@@ -67,6 +68,7 @@ Lines of a script:
   install shortest R  The same, with shortest paths
   install compact R   The same, with the shortest paths that need the fewest intervals
   install landmark R  The same, with paths by way of --landmarks, of at most --stretch percent of the distance
+  renumber KIND R     Install such a plan with new labels, where --numbering keep would keep the old ones
   retire F            Retire the epochs below F
   # TEXT              A comment, also after the words of a line";
 

@@ -10,13 +10,13 @@ use ir_script::{ScriptError, ScriptFault};
 use std::alloc::Global;
 
 /// The first words of the lines of a live run's script, and after them those of a simulation alone.
-static COMMANDS: [&str; 12] = [
-    "inject", "drain", "down", "up", "avoid", "heed", "install", "retire", "learn", "take", "read",
-    "act",
+static COMMANDS: [&str; 13] = [
+    "inject", "drain", "down", "up", "avoid", "heed", "install", "renumber", "retire", "learn",
+    "take", "read", "act",
 ];
 
 /// How many of them are of a live run.
-const LIVE_COMMANDS: usize = 8;
+const LIVE_COMMANDS: usize = 9;
 
 /// The kinds of plans.
 static KINDS: [&str; 4] = ["tree", "shortest", "compact", "landmark"];
@@ -33,6 +33,7 @@ fn form_of(command: &str) -> &'static str {
         "avoid" => "avoid A B",
         "heed" => "heed A B",
         "install" => "install KIND ROOT",
+        "renumber" => "renumber KIND ROOT",
         "retire" => "retire EPOCH",
         "learn" => "learn EPOCH",
         "take" => "take NODE inbox' or 'take NODE from NEIGHBOUR",
@@ -82,7 +83,7 @@ fn push_bad_command(text: &mut String, run: &RunTexts<'_>, words: &[&[u8]]) -> P
     if is_live && matches!(name, "learn" | "take" | "read" | "act") {
         return write!(text, "'{name}' is a command of 'sim' only");
     }
-    if name == "install" && words.len() == 3 {
+    if matches!(name, "install" | "renumber") && words.len() == 3 {
         let (names, kind) = (KINDS.as_slice(), word_at(words, 1));
         return push_unknown(text, run.alloc, names, "", kind, NO_KIND);
     }
@@ -93,7 +94,7 @@ fn push_bad_command(text: &mut String, run: &RunTexts<'_>, words: &[&[u8]]) -> P
 fn node_places(command: &str) -> &'static [usize] {
     match command {
         "inject" | "down" | "up" | "avoid" | "heed" => &[1, 2],
-        "install" => &[2],
+        "install" | "renumber" => &[2],
         "take" => &[1, 3],
         _ => &[1],
     }

@@ -21,7 +21,9 @@ pub fn push_unlearnt(alloc: Global, text: &mut String, script: &GivenText<'_>) -
             begin_at(text, script, place + 1)?;
             return text.push_str(UNLEARNT);
         }
-        is_unlearnt = word == b"install".as_slice() || (is_unlearnt && word != b"learn".as_slice());
+        is_unlearnt = word == b"install".as_slice()
+            || word == b"renumber".as_slice()
+            || (is_unlearnt && word != b"learn".as_slice());
     }
     Ok(())
 }
