@@ -99,7 +99,7 @@ step_form words =
     else if is_word_at words 1 (codes "take") then (if is_word_at words 3 (codes "from") then plain (codes "{\"line\":#,\"event\":$,\"node\":$,~\"from\":$,\"packet\":#}") else plain (codes "{\"line\":#,\"event\":$,\"node\":$,~\"packet\":#}"))
     else if is_word_at words 1 (codes "read") then plain (codes "{\"line\":#,\"event\":$,\"node\":$,\"version\":#}")
     else if is_word_at words 1 (codes "act") then act_form words
-    else if is_word_at words 1 (codes "install") then plain (codes "{\"line\":#,\"event\":$,\"kind\":$,\"root\":$,\"epoch\":#}")
+    else if is_word_at words 1 (codes "install") || is_word_at words 1 (codes "renumber") then plain (codes "{\"line\":#,\"event\":$,\"kind\":$,\"root\":$,\"epoch\":#}")
     else if is_word_at words 1 (codes "learn") || is_word_at words 1 (codes "retire") then plain (codes "{\"line\":#,\"event\":$,\"epoch\":#}")
     else plain (codes "{\"line\":#,\"event\":$,\"link\":[$,$]}")
 

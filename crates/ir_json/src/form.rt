@@ -178,7 +178,7 @@ fn step_form(line: &[u8]) -> Form
         plain("{\"line\":#,\"event\":$,\"node\":$,\"version\":#}")
     } else if is(event, "act") {
         act_form(line)
-    } else if is(event, "install") {
+    } else if is(event, "install") || is(event, "renumber") {
         plain("{\"line\":#,\"event\":$,\"kind\":$,\"root\":$,\"epoch\":#}")
     } else if is(event, "learn") || is(event, "retire") {
         plain("{\"line\":#,\"event\":$,\"epoch\":#}")
