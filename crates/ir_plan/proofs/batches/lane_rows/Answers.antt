@@ -1,9 +1,8 @@
-use Rattle.std.proofs.Common.{◌≡◌, ◌+◌, ◌-◌, ◌<◌, ℕ, List, Option, Some, None, length, min, ap, arith}
-use Rattle.std.specs.Prelude.{IfSome, slice_index}
+use Rattle.std.proofs.Common.{◌+◌, ◌<◌, ℕ, List, length, ap, arith}
+use Rattle.std.specs.Prelude.{slice_index}
 use Rattle.ir_model.specs.declared.Kind.TheVariants.{Shortest}
 use Rattle.ir_model.specs.Row.{Start}
 use Rattle.ir_model.specs.Topology.{node_count}
-use Rattle.ir_lanes.specs.Outward.{OutwardLanes, source_at}
 use Rattle.ir_plan.specs.NodeRows.{IsNodeRow}
 use Rattle.ir_plan.proofs.BatchRows.{read_more, source_here}
 use Rattle.ir_plan.proofs.batches.lane_rows.Goals as goal

@@ -1,4 +1,4 @@
-use Rattle.std.proofs.Common.{◌≡◌, ◌+◌, ◌<◌, ℕ, refl, arith}
+use Rattle.std.proofs.Common.{◌+◌, ◌<◌, ℕ, refl, arith}
 use Rattle.ir_model.specs.Topology.{node_count}
 use Rattle.ir_bounds.proofs.Parts.{parts_more}
 use Rattle.ir_plan.proofs.BatchRows.{source_here}

@@ -1,5 +1,5 @@
-use Rattle.std.proofs.Common.{◌≡◌, ◌+◌, ◌-◌, ◌*◌, ◌<◌, ◌∙◌, ℕ, List, Option, Some, None, length, min, ap, arith}
-use Rattle.std.specs.Prelude.{IfSome, slice_index}
+use Rattle.std.proofs.Common.{◌*◌, ◌∙◌, ℕ, List, length, ap, arith}
+use Rattle.std.specs.Prelude.{slice_index}
 use Rattle.ir_model.specs.Topology.{node_count}
 use Rattle.ir_plan.proofs.BatchRows.{each_source}
 use Rattle.ir_plan.proofs.near.near_batch.Goals as goal

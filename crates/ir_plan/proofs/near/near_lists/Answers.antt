@@ -1,8 +1,8 @@
-use Rattle.std.proofs.Common.{ℕ, List, length, arith}
+use Rattle.std.proofs.Common.{ℕ, List, arith}
 use Rattle.std.specs.Global.{Vec}
 use Rattle.ir_bounds.specs.Near.{IsNearBatch}
 use Rattle.ir_plan.proofs.Crews.{by_closure, of_closure}
-use Rattle.ir_plan.proofs.Lists.{of_ok, lists_for_range, lists_length}
+use Rattle.ir_plan.proofs.Lists.{of_ok, lists_for_range}
 use Rattle.ir_plan.proofs.near.near_lists.OwnLists.{same-1-1}
 use Rattle.ir_plan.proofs.near.near_lists.Goals as goal
 
