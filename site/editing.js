@@ -19,7 +19,7 @@ function adapted(text, format) {
   if (before && graph.names.length > 0 && 2 * kept < Math.min(before.names.length, graph.names.length)) {
     return { kind: "shortest", numbering: "depth-first", root: "", landmarks: "", stretch: "300", script: "", scriptBy: "", isOwnTrace: false, trace: "", restamps: "0", places: "", manual: null, step: 0, node: 0, from: 0, to: Infinity, areWeightsShown: format === "edgelist" };
   }
-  const used = [...script.matchAll(/^\s*(?:inject|take|act|down|up)\s+([^\s#]+)(?:\s+(?:from\s+)?([^\s#]+))?/gm)].flatMap(found => found.slice(1)).filter(name => name && name !== "inbox");
+  const used = [...script.matchAll(/^\s*(?:inject|take|act|down|up|avoid|heed)\s+([^\s#]+)(?:\s+(?:from\s+)?([^\s#]+))?/gm)].flatMap(found => found.slice(1)).filter(name => name && name !== "inbox");
   const isGone = origin >= 0 && script === EXAMPLES[origin].script && !used.every(has);
   return { ...root !== "" && !has(root) ? { root: "" } : {}, ...isGone ? { script: "", scriptBy: "" } : {} };
 }

@@ -135,12 +135,13 @@ export class Player {
     this.told(command, said, refused);
   }
 
-  // A link goes down or comes up.
+  // A link goes down or comes up; or later installs leave it out, or use it again.
   mark(command, { event, link }) {
     const pair = pairOf(...link.map(name => this.graph.numbers.get(name))), down = new Set(this.now.down);
     if (event === "down") down.add(pair);
-    else down.delete(pair);
-    this.change(command, `the link between ${link[0]} and ${link[1]} is ${event}`, { down });
+    else if (event === "up") down.delete(pair);
+    const said = { avoid: "avoided", heed: "heeded" }[event] || event;
+    this.change(command, `the link between ${link[0]} and ${link[1]} is ${said}`, { down });
   }
 
   inject(command, { packet: id }) {

@@ -155,7 +155,8 @@ export function readTrace(text, graph) {
 
 // What follows the first word of each line of a script: a node, a fixed word, a number; `kind` is a kind of plan.
 export const COMMANDS = {
-  inject: ["node", "node"], drain: [], down: ["node", "node"], up: ["node", "node"], install: ["kind", "node"], retire: ["number"],
+  inject: ["node", "node"], drain: [], down: ["node", "node"], up: ["node", "node"], avoid: ["node", "node"],
+  heed: ["node", "node"], install: ["kind", "node"], retire: ["number"],
   learn: ["number"], read: ["node", "number"], act: ["node"], take: ["node", "from", "node"], "take inbox": ["node", "inbox"],
 };
 
@@ -173,7 +174,7 @@ export function commandOf(graph, words) {
     if (!fits) throw new Fault("BadCommand");
   });
   const given = words.slice(1).map((word, i) => wanted[i] === "number" ? scriptNumber(word) : wanted[i] === "node" ? nodeNamed(graph, word) : word);
-  const linked = { down: [0, 1], up: [0, 1], take: [0, 2] }[name];
+  const linked = { down: [0, 1], up: [0, 1], avoid: [0, 1], heed: [0, 1], take: [0, 2] }[name];
   if (linked && !areLinked(graph, given[linked[0]], given[linked[1]])) throw new Fault("UnknownLink");
   return { name, given };
 }

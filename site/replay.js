@@ -95,7 +95,7 @@ function drawMarks() {
   const marks = byId("marks"), { moments, last, epochs: known } = store.now;
   marks.textContent = "";
   for (const { step, name, text, said, refused, epochs } of moments) {
-    if (!["install", "retire", "down", "up"].includes(name)) continue;
+    if (!["install", "retire", "down", "up", "avoid", "heed"].includes(name)) continue;
     const mark = made(marks, "i", undefined, name === "down" || refused ? "lost" : "");
     mark.style.left = 100 * step / Math.max(1, last) + "%";
     mark.title = `${text}: ${said}`;

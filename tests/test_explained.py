@@ -58,6 +58,10 @@ def refused_steps() -> List[Tuple[str, List[str], str, str]]:
         ("up a b", [], "Same", "it changes nothing"),
         ("down a b\ndown c d\ninstall tree a", [], "Disconnected",
          "the links that are up do not connect all nodes"),
+        ("avoid a b\ndown c d\ninstall tree a", [], "Disconnected",
+         "the links that are up and not avoided do not connect all nodes"),
+        ("down a b\navoid a b", [], "LinkDown", "the link is down"),
+        ("heed a b", [], "Same", "it changes nothing"),
         ("install tree a\n" * 64, [], "EpochsFull", "all 64 epochs are used"),
     ]
 

@@ -83,7 +83,8 @@ def as_json(text: str) -> List[Dict[str, Any]]:
         elif name == "read":
             it.update({"node": words[0], "version": int(words[1])})
         else:
-            it["link" if name in ("down", "up") else "epoch"] = words if name in ("down", "up") else int(words[0])
+            is_link = name in ("down", "up", "avoid", "heed")
+            it["link" if is_link else "epoch"] = words if is_link else int(words[0])
         out.append(it)
     return out
 

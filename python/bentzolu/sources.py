@@ -14,7 +14,8 @@ from .texts import SameNames
 from .typed import NameTable, Network, NodeNames, Text
 
 OPERANDS: dict[str, tuple[str, ...]] = {
-    "inject": ("node", "node"), "drain": (), "down": ("node", "node"), "up": ("node", "node"), "install": ("word", "node"),
+    "inject": ("node", "node"), "drain": (), "down": ("node", "node"), "up": ("node", "node"),
+    "avoid": ("node", "node"), "heed": ("node", "node"), "install": ("word", "node"),
     "retire": ("number",), "learn": ("number",), "read": ("node", "number"), "act": ("node",),
 }
 OWN = (None, "adjlist", "edgelist")  # the formats that `bentzolu` reads itself, and one that is not known

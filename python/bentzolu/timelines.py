@@ -10,7 +10,7 @@ from __future__ import annotations
 import math
 import random
 import time
-from typing import Any, Callable, Dict, FrozenSet, Hashable, Iterable, Iterator, List, Mapping, NamedTuple, Optional, Sequence, Tuple, Union
+from typing import Any, Callable, Dict, FrozenSet, Hashable, Iterable, Iterator, List, Mapping, NamedTuple, Optional, Sequence, Set, Tuple, Union
 
 from . import measuring, optional
 from .arrays import bits_of, change, has_ring, parts_of, to_root, tree_weights, walk_weights
@@ -163,7 +163,7 @@ class Timeline(Sequence[Snapshot]):
         kind, root : of each install; the first node is the root by default. `simulate`, `live` and `check` take the landmarks and the
             stretch of kind landmark
         mode : `"reactive"`: links change, packets of the old epoch meet what is down, and a plan is installed. `"ahead"`: what will go
-            down is left out of a new plan while it is up, and goes down once the old epoch has drained
+            down is avoided by a new plan while it still carries packets, and goes down once the old epoch has drained
         inject : how many packets are injected at each point between two nodes that are drawn; or a call of the time and a
             `random.Random` that gives pairs of nodes
         seed : of what is drawn
@@ -179,6 +179,7 @@ class Timeline(Sequence[Snapshot]):
         if mode not in MODES:
             raise StepError(f"{mode!r} is not a mode: give one of {', '.join(MODES)}")
         luck, epoch, found = random.Random(seed), 1, []
+        avoided: Set[Any] = set()
         start = self.nodes[0] if root is None else root
 
         def injected(at: float) -> List[Tuple[Any, ...]]:
@@ -200,8 +201,10 @@ class Timeline(Sequence[Snapshot]):
                 found += [*injected(it.time), *downs, *ups, *drain, *injected(it.time), *drain]
                 found += [*install, *injected(it.time), ("drain",)]
             else:
-                backs = [("up", *link) for link in it.down]
-                found += [*injected(it.time), *ups, *downs, *install, *backs, *injected(it.time), ("drain",)]
+                heeds = [("heed", *link) for link in it.up if link in avoided]
+                avoids = [("avoid", *link) for link in it.down]
+                avoided = avoided.difference(it.up).union(it.down)
+                found += [*injected(it.time), *ups, *heeds, *avoids, *install, *injected(it.time), ("drain",)]
                 found += [*downs, *injected(it.time), ("drain",)]
         return found
 

@@ -168,7 +168,7 @@ def script(luck: Any, names: Any, links: Any, live: Any) -> str:
         choice = luck.randrange(6)
         if choice == 0 and links:
             a, b, _ = luck.choice(links)
-            lines.append(f"{luck.choice(['down', 'up'])} {a} {b}")
+            lines.append(f"{luck.choice(['down', 'up', 'avoid', 'heed'])} {a} {b}")
         if choice == 1:
             lines.append(f"install {luck.choice(['tree', 'shortest', 'compact'])} {luck.choice(names)}")
             lines += [] if live else ["learn 2"]

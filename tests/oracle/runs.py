@@ -2,7 +2,9 @@
 
 Then a packet ends as the network is: it goes by the plan of the epoch that it was stamped with, up to its destination
 or to a link that is down, and no step where that epoch is retired. `check` is to say `ok` of the trace, also with `--whole`.
-Plans of kind landmark go round as the words of the run say, by the landmarks of the links that are up then.
+Links that are avoided carry packets, and no plan is made over them. So no epoch that was installed while a link is
+avoided drops a packet for it.
+Plans of kind landmark go round as the words of the run say, by the landmarks of the links that are up and heeded then.
 """
 from __future__ import annotations
 
@@ -50,20 +52,21 @@ class Network:
         self.nodes = list(self.graph)
         self.links = sorted({frozenset((u, v)) for u in self.nodes for v in self.graph[u]}, key=sorted)
         self.down: set[Any] = set()
+        self.avoided: set[Any] = set()
         self.floor = 1
         self.learnt = 1
         self.plans = [self.planned(kind, root or self.nodes[0])]
 
     def planned(self, kind: Any, root: Any) -> Any:
-        """The plan of a kind over the links that are up; nodes and ports stay in their order."""
+        """The plan of a kind over the links that are up and heeded; nodes and ports stay in their order."""
         if kind == "landmark":
-            ports = {u: [it for it in self.graph[u].items() if frozenset((u, it[0])) not in self.down] for u in self.nodes}
+            ports = {u: [it for it in self.graph[u].items() if frozenset((u, it[0])) not in self.down | self.avoided] for u in self.nodes}
             return landmark_plan(ports, root, self.count, self.stretch)
         return plan_of(self.without(), "edgelist", kind, root)
 
     def without(self) -> Any:
-        """The text of the topology over the links that are up."""
-        lines = [line for line in self.text.splitlines() if frozenset(line.split()[:2]) not in self.down]
+        """The text of the topology over the links that are up and heeded."""
+        lines = [line for line in self.text.splitlines() if frozenset(line.split()[:2]) not in self.down | self.avoided]
         return "\n".join(lines) + "\n"
 
     def play(self, line: Any) -> Any:
@@ -74,8 +77,15 @@ class Network:
             if (link in self.down) == (word == "down"):
                 return "Same"
             (self.down.add if word == "down" else self.down.discard)(link)
+        elif word in ("avoid", "heed"):
+            link = frozenset(rest)
+            if word == "avoid" and link in self.down:
+                return "LinkDown"
+            if (link in self.avoided) == (word == "avoid"):
+                return "Same"
+            (self.avoided.add if word == "avoid" else self.avoided.discard)(link)
         elif word == "install":
-            if not is_connected(self.nodes, [link for link in self.links if link not in self.down]):
+            if not is_connected(self.nodes, [link for link in self.links if link not in self.down | self.avoided]):
                 return "Disconnected"
             self.plans.append(self.planned(*rest))
         elif word == "retire":
@@ -128,7 +138,7 @@ def fault_of(luck: Any, folder: Any) -> Any:
         for _ in range(luck.randrange(4)):
             what = luck.randrange(6)
             if what < 3:
-                step(luck.choice(["down", "down", "up"]) + " " + " ".join(sorted(luck.choice(net.links))))
+                step(luck.choice(["down", "down", "up", "avoid", "heed"]) + " " + " ".join(sorted(luck.choice(net.links))))
             elif what == 3:
                 step(f"retire {luck.randrange(1, len(net.plans) + 2)}")
             elif len(net.plans) < 60 and not step(f"install {luck.choice(kinds)} {luck.choice(net.nodes)}"):

@@ -50,7 +50,7 @@ def ways_of(text: str) -> List[Told]:
 
 def in_any_order(words: List[str]) -> List[str]:
     """The words of an event, where a link may be named by its ends in either order."""
-    return [words[0], *sorted(words[1:])] if words[0] in ("down", "up") else words
+    return [words[0], *sorted(words[1:])] if words[0] in ("down", "up", "avoid", "heed") else words
 
 
 def steps_fault(seed: int) -> Optional[str]:

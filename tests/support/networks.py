@@ -43,8 +43,8 @@ def busy(luck: random.Random, nodes: Sequence[str], links: Links, changes: bool,
 
 
 def change(luck: random.Random, nodes: Sequence[str], links: Links, down: Links) -> str:
-    """A change of the network: links that go down and come up, new plans, epochs that are retired."""
-    what = luck.randrange(4)
+    """A change of the network: links that go down, come up, or are avoided; new plans; epochs that are retired."""
+    what = luck.randrange(5)
     if what == 0 and len(down) < 4:
         down.append(luck.choice(links))
         return "down {} {}".format(*down[-1])
@@ -52,6 +52,8 @@ def change(luck: random.Random, nodes: Sequence[str], links: Links, down: Links)
         return "up {} {}".format(*down.pop())
     if what == 2:
         return f"retire {luck.randrange(1, 60)}"
+    if what == 3:
+        return "{} {} {}".format(luck.choice(["avoid", "avoid", "heed"]), *luck.choice(links))
     return "install {} {}".format(luck.choice(["tree", "shortest", "compact", "landmark"]), luck.choice(nodes))
 
 

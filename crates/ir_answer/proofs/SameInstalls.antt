@@ -1,5 +1,5 @@
 -- Two lists of installs of one opening and one list of steps have the same plans.
-use Rattle.std.proofs.Common.{◌≡◌, ◌+◌, ℕ, suc, List, [], ◌∷◌, ◌++◌, length, take, Option, Some, None, Bool, true, false, refl, sym, ap, ◌∙◌, subst}
+use Rattle.std.proofs.Common.{◌≡◌, ◌+◌, ℕ, suc, List, [], ◌∷◌, ◌++◌, length, Option, Some, None, Bool, true, false, refl, sym, ap, ◌∙◌, subst}
 use Rattle.std.specs.Prelude.{Result, Ok}
 use Rattle.std.proofs.lemmas.Option.{none-some}
 use Rattle.ir_model.specs.declared.Kind.{Kind}
@@ -11,8 +11,8 @@ use Rattle.ir_plan.specs.Starts.{IsLabelledBy}
 use Rattle.ir_plan.specs.Building.{FromRoot, IsPlanBy}
 use Rattle.ir_core.specs.declared.opening.Opening.{Opening}
 use Rattle.ir_core.specs.declared.board.Board.{Board}
-use Rattle.ir_core.specs.Board.{marked, retired_below, installed}
-use Rattle.ir_core.specs.Refusals.{retire_refused, mark_refused, install_refused}
+use Rattle.ir_core.specs.Board.{links_used, marked, heeding, retired_below, installed}
+use Rattle.ir_core.specs.Refusals.{retire_refused, mark_refused, heed_refused, install_refused}
 use Rattle.ir_core.specs.declared.built.Install.{Install}
 use Rattle.ir_core.specs.declared.event.Event.TheVariants as event
 use Rattle.ir_core.specs.declared.event.Step.{Step}
@@ -98,11 +98,23 @@ module _ (o p : Setting) (over : o.topology ≡ p.topology) where
       let boards = ap (λ (boards : List Board). unless (mark_refused (links_of o) (newest_of boards) l up) (Ok (DidChange (marked (newest_of boards) l up)))) (sym is.boards) in
       taken log other later next w v went gone (change_alike log other is (mark_refused (links_of o) one l up) (marked one l up) w v comes (goes ∙ links ∙ boards))
 
+  -- what a link that is to be heeded or avoided comes to
+  abbrev HeedsAs : Setting → List Entry → ℕ → Bool → Result Entry Refused → Type 0
+  HeedsAs s log l heed w = w ≡ unless (heed_refused (links_of s) (newest_of (history.boards log)) l heed) (Ok (DidChange (heeding (newest_of (history.boards log)) l heed)))
+
+  heed_alike : (log other later next : List Entry) → AreAlike log other → (l : ℕ) (heed : Bool) (w v : Result Entry Refused) → HeedsAs o log l heed w → HeedsAs p other l heed v
+      → later ≡ with_entry log w → next ≡ with_entry other v → AreAlike later next
+  heed_alike log other later next is l heed w v comes goes went gone =
+      let one = newest_of (history.boards log) in
+      let links = ap (λ (net : Topology). unless (heed_refused (length net.links) (newest_of (history.boards other)) l heed) (Ok (DidChange (heeding (newest_of (history.boards other)) l heed)))) (sym over) in
+      let boards = ap (λ (boards : List Board). unless (heed_refused (links_of o) (newest_of boards) l heed) (Ok (DidChange (heeding (newest_of boards) l heed)))) (sym is.boards) in
+      taken log other later next w v went gone (change_alike log other is (heed_refused (links_of o) one l heed) (heeding one l heed) w v comes (goes ∙ links ∙ boards))
+
   -- an install, which is refused by both or accepted by both
   up_same : (log other : List Entry) → AreAlike log other → topology_up o (sight_after o log) ≡ topology_up p (sight_after p other)
   up_same log other is =
-      ap (λ (boards : List Board). restrict (take (links_of o) (newest_of boards).up) o.topology) is.boards
-      ∙ ap (λ (net : Topology). restrict (take (length net.links) (newest_of (history.boards other)).up) net) over
+      ap (λ (boards : List Board). restrict (links_used (newest_of boards) (links_of o)) o.topology) is.boards
+      ∙ ap (λ (net : Topology). restrict (links_used (newest_of (history.boards other)) (length net.links)) net) over
 
   refused_same : (log other : List Entry) → AreAlike log other → (root : ℕ) → install_refusal o (sight_after o log) root ≡ install_refusal p (sight_after p other) root
   refused_same log other is root =
@@ -146,6 +158,8 @@ module _ (o p : Setting) (over : o.topology ≡ p.topology) where
   step_alike log other later next is (step.Event (event.Retire f)) a b = retire_alike log other later next is f a b
   step_alike log other later next is (step.Event (event.Down l)) a b = mark_alike log other later next is l false a.0 b.0 a.1 b.1 a.2 b.2
   step_alike log other later next is (step.Event (event.Up l)) a b = mark_alike log other later next is l true a.0 b.0 a.1 b.1 a.2 b.2
+  step_alike log other later next is (step.Event (event.Avoid l)) a b = heed_alike log other later next is l false a.0 b.0 a.1 b.1 a.2 b.2
+  step_alike log other later next is (step.Event (event.Heed l)) a b = heed_alike log other later next is l true a.0 b.0 a.1 b.1 a.2 b.2
   step_alike log other later next is (step.Event (event.Inject source dest)) a b = passed log other later next is a b
   step_alike log other later next is (step.Event (event.Learn e)) a b = passed log other later next is a b
   step_alike log other later next is (step.Event (event.Take u way)) a b = passed log other later next is a b

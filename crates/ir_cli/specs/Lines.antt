@@ -70,7 +70,7 @@ refusal_words =
     codes "NoNode" ∷ codes "NoLink" ∷ codes "NoChannel" ∷ codes "NoEpoch" ∷ codes "HandFull"
     ∷ codes "HandEmpty" ∷ codes "Empty" ∷ codes "BadView" ∷ codes "Same" ∷ codes "EpochsFull"
     ∷ codes "Disconnected" ∷ codes "TooManyPackets" ∷ codes "NoMemory" ∷ codes "InboxFull" ∷ codes "TooManyChanges"
-    ∷ codes "Used" ∷ []
+    ∷ codes "Used" ∷ codes "LinkDown" ∷ []
 
 abbrev pub refusal_name : Refused → List ℕ
 refusal_name refusal = word_of refusal_words (refusal_code refusal)

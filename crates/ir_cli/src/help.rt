@@ -40,6 +40,8 @@ Lines of a script ('learn', 'take', 'read' and 'act' are for 'sim' only):
   drain               Move the packets, round by round, until none can move
   down A B            Take the link between A and B down
   up A B              Bring the link between A and B up
+  avoid A B           Leave that link out of later installs; it still carries packets
+  heed A B            Let later installs use it again
   install tree R      Install a tree plan with root R, over the links that are up, as the new epoch
   install shortest R  The same, with shortest paths
   install compact R   The same, with the shortest paths that need the fewest intervals
@@ -59,6 +61,8 @@ Lines of a script:
   drain               Wait until every packet is delivered or dropped, or a node has stopped
   down A B            Take the link between A and B down
   up A B              Bring the link between A and B up
+  avoid A B           Leave that link out of later installs; it still carries packets
+  heed A B            Let later installs use it again
   install tree R      Install a tree plan with root R, over the links that are up, as the new epoch
   install shortest R  The same, with shortest paths
   install compact R   The same, with the shortest paths that need the fewest intervals

@@ -51,7 +51,7 @@ static OPENINGS: [&str; 7] = [
 ];
 
 /// Those of the refusals of a step.
-static REFUSALS: [&str; 16] = [
+static REFUSALS: [&str; 17] = [
     "NoNode",
     "NoLink",
     "NoChannel",
@@ -68,6 +68,7 @@ static REFUSALS: [&str; 16] = [
     "InboxFull",
     "TooManyChanges",
     "Used",
+    "LinkDown",
 ];
 
 /// Those of the findings.

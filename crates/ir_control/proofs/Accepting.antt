@@ -3,7 +3,7 @@ use Rattle.std.specs.Prelude.{◌≡◌, ℕ, ◌+◌, List, [], ◌∷◌, ◌+
 use Rattle.std.proofs.Common.{refl, sym, ap, ◌∙◌, subst, append-nil, append_assoc, length-append}
 use Rattle.ir_core.specs.declared.event.Refused.{Refused}
 use Rattle.ir_core.specs.declared.command.Command.{Command}
-use Rattle.ir_core.specs.declared.command.Command.TheVariants.{Inject, Install, Retire, Down, Up, Drain}
+use Rattle.ir_core.specs.declared.command.Command.TheVariants.{Inject, Install, Retire, Down, Up, Avoid, Heed, Drain}
 use Rattle.ir_epochs.specs.declared.registry.Stamp.{Stamp}
 use Rattle.ir_epochs.specs.declared.entry.Change.{Change}
 use Rattle.ir_links.specs.Ends.{Word}
@@ -78,6 +78,8 @@ module _ (was_full : Word Parcel) {B : Type 0} where
   carried (Retire floor) before after answer is = changed _ _ before after answer is
   carried (Down link) before after answer is = changed _ _ before after answer is
   carried (Up link) before after answer is = changed _ _ before after answer is
+  carried (Avoid link) before after answer is = changed _ _ before after answer is
+  carried (Heed link) before after answer is = changed _ _ before after answer is
   carried Drain before after answer is = subst (λ (a : CommandAnswer). Kept before.injector after.injector [] (epoch_after before.injector.newest.epoch a)) (sym is.0) (unchanged before.injector after.injector is.1)
 
   -- of one net before, the injector and the controller are of one net after
@@ -96,6 +98,8 @@ module _ (was_full : Word Parcel) {B : Type 0} where
     moved (Retire floor) a b x is = changed_opening _ _ a b x is
     moved (Down link) a b x is = changed_opening _ _ a b x is
     moved (Up link) a b x is = changed_opening _ _ a b x is
+    moved (Avoid link) a b x is = changed_opening _ _ a b x is
+    moved (Heed link) a b x is = changed_opening _ _ a b x is
     moved Drain a b x is = ap (λ (k : Controller B). k.opening) is.2
 
   pub same_injector : (commands : List Command) (a b : Desk B) (answers : List CommandAnswer) → AreCarriedOut was_full commands a answers b → IsSameInjector a.injector b.injector

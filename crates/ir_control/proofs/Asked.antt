@@ -11,6 +11,8 @@ use Rattle.ir_model.specs.Topology.{Topology, restrict}
 use Rattle.ir_plan.specs.declared.tour.LabelOrder.{LabelOrder}
 use Rattle.ir_core.specs.declared.TheConstants.{MAX_LINKS}
 use Rattle.ir_core.specs.declared.board.Board.{Board}
+use Rattle.ir_core.specs.Marks.{both}
+use Rattle.ir_core.specs.Board.{links_used, marked, heeding}
 use Rattle.ir_core.specs.Meaning.{IsMade}
 use Rattle.ir_epochs.specs.declared.registry.Stamp.{Stamp}
 use Rattle.ir_epochs.specs.declared.handles.Receipt.{Receipt}
@@ -26,9 +28,9 @@ use Rattle.ir_links.specs.Ends.{Word}
 use Rattle.ir_worker.specs.declared.node.Node.{Node}
 use Rattle.ir_core.specs.declared.event.Refused.{Refused}
 use Rattle.ir_core.specs.declared.event.Refused.TheVariants.{NoLink}
-use Rattle.ir_core.specs.Refusals.{mark_refused}
+use Rattle.ir_core.specs.Refusals.{mark_refused, heed_refused}
 use Rattle.ir_core.specs.declared.command.Command.{Command}
-use Rattle.ir_core.specs.declared.command.Command.TheVariants.{Inject, Install, Retire, Down, Up, Drain}
+use Rattle.ir_core.specs.declared.command.Command.TheVariants.{Inject, Install, Retire, Down, Up, Avoid, Heed, Drain}
 use Rattle.std.specs.List.{AllByRecursion}
 use Rattle.ir_worker.specs.Account.{NeverCurrent}
 use Rattle.ir_worker.specs.Seen.{Parcel}
@@ -40,12 +42,12 @@ use Rattle.ir_control.specs.Parts.{AreFreshParts}
 use Rattle.ir_control.specs.Desks.{Desk}
 use Rattle.ir_control.specs.Agreed.{AreOfOne}
 use Rattle.ir_control.specs.Answers.{CommandAnswer, epoch_after}
-use Rattle.ir_control.specs.Planned.{stamp_by, stamps_in, up_after, IsAsked, AreAsked}
+use Rattle.ir_control.specs.Planned.{LinkMarks, all_marked, used_in, marks_after, stamp_by, stamps_in, IsAsked, AreAsked}
 use Rattle.ir_control.specs.Carried.{IsChangedAs, InstallsAndLearns, IsCarriedOut, AreCarriedOut}
 
 -- a mark that is not refused is that of a link
-link_in : (links : ℕ) (b : Board) (l : ℕ) (up : Bool) → mark_refused links b l up ≡ None → l < links
-link_in links b l up e = by (nat_le links l) _ refl e
+link_in : (links l : ℕ) (rest : Option Refused) → cond (nat_le links l) (Some NoLink) rest ≡ None → l < links
+link_in links l rest e = by (nat_le links l) rest refl e
   where
     by : (t : Bool) (rest : Option Refused) → nat_le links l ≡ t → cond t (Some NoLink) rest ≡ None → l < links
     by true rest is e = absurd (cc e)
@@ -88,133 +90,162 @@ never_at_first p links s none zero = none
 never_at_first p links s none (suc n) = ap (λ (ys : List Entry). p (board_of ys).current) (take_all (suc n) (Opened links s ∷ []) (omega arith)) ∙ none
 
 module _ {B : Type 0} (net : Net) (origin : Controller B) where
-  -- the controller is of the net and of the board of another one, on which these links are up, and has used up this epoch
-  pub record Stands (up : List Bool) (last : ℕ) (c : Controller B) : Type 0 where
+  -- the controller is of the net and of the board of another one, on which the links have these marks, and has used up
+  -- this epoch
+  pub record Stands (m : LinkMarks) (last : ℕ) (c : Controller B) : Type 0 where
     pub opening : c.opening ≡ net.opening
     pub labels : c.labels ≡ net.labels
     pub board : writer_board c.writer ≡ writer_board origin.writer
-    pub ups : take (length net.topology.links) (board_of (published c.writer)).up ≡ up
+    pub ups : take (length net.topology.links) (board_of (published c.writer)).up ≡ m.up
+    pub heeds : take (length net.topology.links) (board_of (published c.writer)).heeded ≡ m.heeded
     pub used : last ≤ c.used
 
   abbrev links : ℕ
   links = length net.topology.links
 
-  same_up : (up : List Bool) (last : ℕ) (c : Controller B) → Stands up last c → topology_up c ≡ restrict up net.topology
-  same_up up last c is =
+  same_up : (m : LinkMarks) (last : ℕ) (c : Controller B) → Stands m last c → topology_up c ≡ restrict (used_in m) net.topology
+  same_up m last c is =
       let over : (knows c.opening).topology ≡ net.topology = ap (λ (s : Stamp). (knows s).topology) is.opening ∙ net.opened.topology in
-      ap (λ (g : Topology). restrict (take (length g.links) (board_of (published c.writer)).up) g) over ∙ ap (λ (marks : List Bool). restrict marks net.topology) is.ups
+      ap (λ (g : Topology). restrict (links_used (board_of (published c.writer)) (length g.links)) g) over
+      ∙ ap (λ (up : List Bool). restrict (both up (take links (board_of (published c.writer)).heeded)) net.topology) is.ups
+      ∙ ap (λ (heeded : List Bool). restrict (both m.up heeded) net.topology) is.heeds
 
-  unmoved : (up : List Bool) (last : ℕ) (a b : Controller B) → b ≡ a → Stands up last a → Stands up last b
-  unmoved up last a b same is = subst (λ (c : Controller B). Stands up last c) (sym same) is
+  unmoved : (m : LinkMarks) (last : ℕ) (a b : Controller B) → b ≡ a → Stands m last a → Stands m last b
+  unmoved m last a b same is = subst (λ (c : Controller B). Stands m last c) (sym same) is
 
-  nothing : (up : List Bool) (last : ℕ) (a b : Controller B) → PublishesNothing a b → a.used ≤ b.used → Stands up last a → Stands up last b
-  nothing up last a b none le is = record {
+  nothing : (m : LinkMarks) (last : ℕ) (a b : Controller B) → PublishesNothing a b → a.used ≤ b.used → Stands m last a → Stands m last b
+  nothing m last a b none le is = record {
     opening = none.opening ∙ is.opening;
     labels = none.labels ∙ is.labels;
     board = none.board ∙ is.board;
     ups = ap (λ (xs : List Entry). take links (board_of xs).up) none.published_is ∙ is.ups;
+    heeds = ap (λ (xs : List Entry). take links (board_of xs).heeded) none.published_is ∙ is.heeds;
     used = (let u = is.used in omega (arith, u, le));
   }
 
-  one_more : (up up' : List Bool) (last last' : ℕ) (a b : Controller B) (c : Change) (t : Receipt) → Publishes a b c t → take links (changed (board_of (published a.writer)) c).up ≡ up' → last' ≤ b.used → Stands up last a → Stands up' last' b
-  one_more up up' last last' a b c t more marks le is = record {
+  -- the links have these marks on a board
+  abbrev IsMarkedAs : LinkMarks → Board → Type 0
+  IsMarkedAs m b = (take links b.up ≡ m.up) × (take links b.heeded ≡ m.heeded)
+
+  one_more : (m m' : LinkMarks) (last last' : ℕ) (a b : Controller B) (c : Change) (t : Receipt) → Publishes a b c t → IsMarkedAs m' (changed (board_of (published a.writer)) c) → last' ≤ b.used → Stands m last a → Stands m' last' b
+  one_more m m' last last' a b c t more marks le is = record {
     opening = more.opening ∙ is.opening;
     labels = more.labels ∙ is.labels;
     board = more.board ∙ is.board;
-    ups = ap (λ (xs : List Entry). take links (board_of xs).up) more.published_is ∙ ap (λ (b : Board). take links b.up) (board_last (published a.writer) c) ∙ marks;
+    ups = ap (λ (xs : List Entry). take links (board_of xs).up) more.published_is ∙ ap (λ (b : Board). take links b.up) (board_last (published a.writer) c) ∙ marks.0;
+    heeds = ap (λ (xs : List Entry). take links (board_of xs).heeded) more.published_is ∙ ap (λ (b : Board). take links b.heeded) (board_last (published a.writer) c) ∙ marks.1;
     used = le;
   }
 
   -- a change that installs nothing
-  accepted : (why_not : Option Refused) (c : Change) (up up' : List Bool) (last : ℕ) (a b : Desk B) → IsChangedAs why_not c a (Ok None) b → Stands up last a.controller
-      → (why_not ≡ None → take links (changed (board_of (published a.controller.writer)) c).up ≡ up') → Stands up' last b.controller
-  accepted why_not c up up' last a b done is marks =
-      one_more up up' last last a.controller b.controller c done.1.0 done.1.1.1.1 (marks done.1.1.1.0) (let u = is.used in let same = done.1.1.0 in omega (arith, u, same)) is
+  accepted : (why_not : Option Refused) (c : Change) (m m' : LinkMarks) (last : ℕ) (a b : Desk B) → IsChangedAs why_not c a (Ok None) b → Stands m last a.controller
+      → (why_not ≡ None → IsMarkedAs m' (changed (board_of (published a.controller.writer)) c)) → Stands m' last b.controller
+  accepted why_not c m m' last a b done is marks =
+      one_more m m' last last a.controller b.controller c done.1.0 done.1.1.1.1 (marks done.1.1.1.0) (let u = is.used in let same = done.1.1.0 in omega (arith, u, same)) is
 
-  rejected : (why_not : Option Refused) (c : Change) (up : List Bool) (last : ℕ) (a b : Desk B) (why : Refused) → IsChangedAs why_not c a (Err why) b → Stands up last a.controller → Stands up last b.controller
-  rejected why_not c up last a b why done is = nothing up last a.controller b.controller done.1.1.1 (let same = done.1.0 in omega (arith, same)) is
+  rejected : (why_not : Option Refused) (c : Change) (m : LinkMarks) (last : ℕ) (a b : Desk B) (why : Refused) → IsChangedAs why_not c a (Err why) b → Stands m last a.controller → Stands m last b.controller
+  rejected why_not c m last a b why done is = nothing m last a.controller b.controller done.1.1.1 (let same = done.1.0 in omega (arith, same)) is
 
-  marked_up : (up : List Bool) (last : ℕ) (c : Controller B) (l : ℕ) (v : Bool) → Stands up last c → mark_refused (length (knows c.opening).topology.links) (board_of (published c.writer)) l v ≡ None
-      → (w : Bool) → take links (slice_set (board_of (published c.writer)).up l w) ≡ slice_set up l w
-  marked_up up last c l v is allowed w =
+  -- a link's mark
+  link_here : (m : LinkMarks) (last : ℕ) (c : Controller B) (l : ℕ) (rest : Option Refused) → Stands m last c → cond (nat_le (length (knows c.opening).topology.links) l) (Some NoLink) rest ≡ None → l < links
+  link_here m last c l rest is allowed =
       let over : length (knows c.opening).topology.links ≡ links = ap (λ (s : Stamp). length (knows s).topology.links) is.opening ∙ ap (λ (g : Topology). length g.links) net.opened.topology in
-      let within = link_in (length (knows c.opening).topology.links) (board_of (published c.writer)) l v allowed in
-      take-set-lt links (board_of (published c.writer)).up l w (omega (arith, over, within)) ∙ ap (λ (marks : List Bool). slice_set marks l w) is.ups
+      let within = link_in (length (knows c.opening).topology.links) l rest allowed in
+      omega (arith, over, within)
 
-  of_one : (kind : Kind) (root : ℕ) (up : List Bool) (last : ℕ) (a b : Desk B) (s : Stamp) → InstallsAndLearns a b kind root s → Stands up last a.controller → registry_name s ≡ registry_name net.opening
-  of_one kind root up last a b s done is =
+  set_there : (xs ys : List Bool) (l : ℕ) (w : Bool) → take links xs ≡ ys → l < links → take links (slice_set xs l w) ≡ slice_set ys l w
+  set_there xs ys l w is within = take-set-lt links xs l w within ∙ ap (λ (marks : List Bool). slice_set marks l w) is
+
+  marked_up : (m : LinkMarks) (last : ℕ) (c : Controller B) (l : ℕ) (w : Bool) → Stands m last c → mark_refused (length (knows c.opening).topology.links) (board_of (published c.writer)) l w ≡ None
+      → IsMarkedAs (record m { up = slice_set m.up l w }) (marked (board_of (published c.writer)) l w)
+  marked_up m last c l w is allowed = (set_there _ _ l w is.ups (link_here m last c l _ is allowed), is.heeds)
+
+  marked_heeded : (m : LinkMarks) (last : ℕ) (c : Controller B) (l : ℕ) (w : Bool) → Stands m last c → heed_refused (length (knows c.opening).topology.links) (board_of (published c.writer)) l w ≡ None
+      → IsMarkedAs (record m { heeded = slice_set m.heeded l w }) (heeding (board_of (published c.writer)) l w)
+  marked_heeded m last c l w is allowed = (is.ups, set_there _ _ l w is.heeds (link_here m last c l _ is allowed))
+
+  of_one : (kind : Kind) (root : ℕ) (m : LinkMarks) (last : ℕ) (a b : Desk B) (s : Stamp) → InstallsAndLearns a b kind root s → Stands m last a.controller → registry_name s ≡ registry_name net.opening
+  of_one kind root m last a b s done is =
       ap registry_name (sym done.stamp_is) ∙ done.installs.registered ∙ sym a.controller.of_registry ∙ ap registry_name is.opening
 
-  installed : (kind : Kind) (root : ℕ) (up : List Bool) (last : ℕ) (a b : Desk B) (s : Stamp) → InstallsAndLearns a b kind root s → Stands up last a.controller →
-      IsAsked net.labels net.topology up last (Install kind root) (Ok (Some s)) × Stands up (epoch_after last (Ok (Some s))) b.controller
-  installed kind root up last a b s done is =
+  installed : (kind : Kind) (root : ℕ) (m : LinkMarks) (last : ℕ) (a b : Desk B) (s : Stamp) → InstallsAndLearns a b kind root s → Stands m last a.controller →
+      IsAsked net.labels net.topology (used_in m) last (Install kind root) (Ok (Some s)) × Stands m (epoch_after last (Ok (Some s))) b.controller
+  installed kind root m last a b s done is =
       let i = done.installs in
       let same : i.stamp.epoch ≡ s.epoch = ap (λ (x : Stamp). x.epoch) done.stamp_is in
       let number = i.epoch in
       let before = is.used in
       let now = i.used in
-      let made : IsMade net.labels kind root (restrict up net.topology) (Some (knows i.stamp)) =
-      subst (λ (n : LabelOrder). IsMade n kind root (restrict up net.topology) (Some (knows i.stamp))) is.labels
-      (subst (λ (g : Topology). IsMade a.controller.labels kind root g (Some (knows i.stamp))) (same_up up last a.controller is) i.plan) in (
-        (omega (arith, same, number, before), subst (λ (x : Stamp). IsMade net.labels kind root (restrict up net.topology) (Some (knows x))) done.stamp_is made),
-        one_more up up last (epoch_after last (Ok (Some s))) a.controller b.controller (change.Install i.stamp) done.receipt i.publishes is.ups
+      let made : IsMade net.labels kind root (restrict (used_in m) net.topology) (Some (knows i.stamp)) =
+      subst (λ (n : LabelOrder). IsMade n kind root (restrict (used_in m) net.topology) (Some (knows i.stamp))) is.labels
+      (subst (λ (g : Topology). IsMade a.controller.labels kind root g (Some (knows i.stamp))) (same_up m last a.controller is) i.plan) in (
+        (omega (arith, same, number, before), subst (λ (x : Stamp). IsMade net.labels kind root (restrict (used_in m) net.topology) (Some (knows x))) done.stamp_is made),
+        one_more m m last (epoch_after last (Ok (Some s))) a.controller b.controller (change.Install i.stamp) done.receipt i.publishes (is.ups, is.heeds)
             (after_epoch last b.controller.used s (omega (arith, before, now)) (omega (arith, same, number, now))) is,
       )
 
   module _ (was_full : Word Parcel) where
-    step : (c : Command) (up : List Bool) (last : ℕ) (a b : Desk B) (answer : CommandAnswer) → IsCarriedOut was_full c a answer b → Stands up last a.controller →
-        IsAsked net.labels net.topology up last c answer × Stands (up_after up c answer) (epoch_after last answer) b.controller
-    step (Inject source dest) up last a b (Ok None) done is = (refl, unmoved up last a.controller b.controller done.3 is)
-    step (Inject source dest) up last a b (Ok (Some s)) done is = absurd done.0
-    step (Inject source dest) up last a b (Err why) done is = (refl, unmoved up last a.controller b.controller done.3 is)
-    step (Install kind root) up last a b (Ok None) done is = absurd done
-    step (Install kind root) up last a b (Ok (Some s)) done is = installed kind root up last a b s done is
-    step (Install kind root) up last a b (Err why) done is = (tt, nothing up last a.controller b.controller done.1.nothing (used_le a.controller.used b.controller.used done.1.used) is)
-    step (Retire floor) up last a b (Ok None) done is = (refl, accepted _ (change.Retire floor) up up last a b done is (λ allowed. is.ups))
-    step (Retire floor) up last a b (Ok (Some s)) done is = absurd done
-    step (Retire floor) up last a b (Err why) done is = (refl, rejected _ (change.Retire floor) up last a b why done is)
-    step (Down l) up last a b (Ok None) done is = (refl, accepted _ (change.Down l) up (slice_set up l false) last a b done is (λ allowed. marked_up up last a.controller l false is allowed false))
-    step (Down l) up last a b (Ok (Some s)) done is = absurd done
-    step (Down l) up last a b (Err why) done is = (refl, rejected _ (change.Down l) up last a b why done is)
-    step (Up l) up last a b (Ok None) done is = (refl, accepted _ (change.Up l) up (slice_set up l true) last a b done is (λ allowed. marked_up up last a.controller l true is allowed true))
-    step (Up l) up last a b (Ok (Some s)) done is = absurd done
-    step (Up l) up last a b (Err why) done is = (refl, rejected _ (change.Up l) up last a b why done is)
-    step Drain up last a b (Ok None) done is = (refl, unmoved up last a.controller b.controller done.2 is)
-    step Drain up last a b (Ok (Some s)) done is = absurd (let e = done.0 in cc e)
-    step Drain up last a b (Err why) done is = absurd (let e = done.0 in cc e)
+    step : (c : Command) (m : LinkMarks) (last : ℕ) (a b : Desk B) (answer : CommandAnswer) → IsCarriedOut was_full c a answer b → Stands m last a.controller →
+        IsAsked net.labels net.topology (used_in m) last c answer × Stands (marks_after m c answer) (epoch_after last answer) b.controller
+    step (Inject source dest) m last a b (Ok None) done is = (refl, unmoved m last a.controller b.controller done.3 is)
+    step (Inject source dest) m last a b (Ok (Some s)) done is = absurd done.0
+    step (Inject source dest) m last a b (Err why) done is = (refl, unmoved m last a.controller b.controller done.3 is)
+    step (Install kind root) m last a b (Ok None) done is = absurd done
+    step (Install kind root) m last a b (Ok (Some s)) done is = installed kind root m last a b s done is
+    step (Install kind root) m last a b (Err why) done is = (tt, nothing m last a.controller b.controller done.1.nothing (used_le a.controller.used b.controller.used done.1.used) is)
+    step (Retire floor) m last a b (Ok None) done is = (refl, accepted _ (change.Retire floor) m m last a b done is (λ allowed. (is.ups, is.heeds)))
+    step (Retire floor) m last a b (Ok (Some s)) done is = absurd done
+    step (Retire floor) m last a b (Err why) done is = (refl, rejected _ (change.Retire floor) m last a b why done is)
+    step (Down l) m last a b (Ok None) done is = (refl, accepted _ (change.Down l) m (record m { up = slice_set m.up l false }) last a b done is (λ allowed. marked_up m last a.controller l false is allowed))
+    step (Down l) m last a b (Ok (Some s)) done is = absurd done
+    step (Down l) m last a b (Err why) done is = (refl, rejected _ (change.Down l) m last a b why done is)
+    step (Up l) m last a b (Ok None) done is = (refl, accepted _ (change.Up l) m (record m { up = slice_set m.up l true }) last a b done is (λ allowed. marked_up m last a.controller l true is allowed))
+    step (Up l) m last a b (Ok (Some s)) done is = absurd done
+    step (Up l) m last a b (Err why) done is = (refl, rejected _ (change.Up l) m last a b why done is)
+    step (Avoid l) m last a b (Ok None) done is = (refl, accepted _ (change.Avoid l) m (record m { heeded = slice_set m.heeded l false }) last a b done is (λ allowed. marked_heeded m last a.controller l false is allowed))
+    step (Avoid l) m last a b (Ok (Some s)) done is = absurd done
+    step (Avoid l) m last a b (Err why) done is = (refl, rejected _ (change.Avoid l) m last a b why done is)
+    step (Heed l) m last a b (Ok None) done is = (refl, accepted _ (change.Heed l) m (record m { heeded = slice_set m.heeded l true }) last a b done is (λ allowed. marked_heeded m last a.controller l true is allowed))
+    step (Heed l) m last a b (Ok (Some s)) done is = absurd done
+    step (Heed l) m last a b (Err why) done is = (refl, rejected _ (change.Heed l) m last a b why done is)
+    step Drain m last a b (Ok None) done is = (refl, unmoved m last a.controller b.controller done.2 is)
+    step Drain m last a b (Ok (Some s)) done is = absurd (let e = done.0 in cc e)
+    step Drain m last a b (Err why) done is = absurd (let e = done.0 in cc e)
 
-    pub all_asked : (commands : List Command) (up : List Bool) (last : ℕ) (a b : Desk B) (answers : List CommandAnswer) → AreCarriedOut was_full commands a answers b → Stands up last a.controller → AreAsked net.labels net.topology up last commands answers
-    all_asked [] up last a b answers done is = tt
-    all_asked (c ∷ commands) up last a b [] done is = tt
-    all_asked (c ∷ commands) up last a b (x ∷ answers) done is =
-        let one = step c up last a done.0 x done.1 is in
-        (one.0, all_asked commands (up_after up c x) (epoch_after last x) done.0 b answers done.2 one.1)
+    pub all_asked : (commands : List Command) (m : LinkMarks) (last : ℕ) (a b : Desk B) (answers : List CommandAnswer) → AreCarriedOut was_full commands a answers b → Stands m last a.controller → AreAsked net.labels net.topology m last commands answers
+    all_asked [] m last a b answers done is = tt
+    all_asked (c ∷ commands) m last a b [] done is = tt
+    all_asked (c ∷ commands) m last a b (x ∷ answers) done is =
+        let one = step c m last a done.0 x done.1 is in
+        (one.0, all_asked commands (marks_after m c x) (epoch_after last x) done.0 b answers done.2 one.1)
 
     -- it is the same board
-    pub same_board : (commands : List Command) (up : List Bool) (last : ℕ) (a b : Desk B) (answers : List CommandAnswer) → AreCarriedOut was_full commands a answers b → Stands up last a.controller → writer_board b.controller.writer ≡ writer_board origin.writer
-    same_board [] up last a b [] done is = ap (λ (d : Desk B). writer_board d.controller.writer) done ∙ is.board
-    same_board [] up last a b (x ∷ answers) done is = absurd done
-    same_board (c ∷ commands) up last a b [] done is = absurd done
-    same_board (c ∷ commands) up last a b (x ∷ answers) done is =
-        same_board commands (up_after up c x) (epoch_after last x) done.0 b answers done.2 (step c up last a done.0 x done.1 is).1
+    pub same_board : (commands : List Command) (m : LinkMarks) (last : ℕ) (a b : Desk B) (answers : List CommandAnswer) → AreCarriedOut was_full commands a answers b → Stands m last a.controller → writer_board b.controller.writer ≡ writer_board origin.writer
+    same_board [] m last a b [] done is = ap (λ (d : Desk B). writer_board d.controller.writer) done ∙ is.board
+    same_board [] m last a b (x ∷ answers) done is = absurd done
+    same_board (c ∷ commands) m last a b [] done is = absurd done
+    same_board (c ∷ commands) m last a b (x ∷ answers) done is =
+        same_board commands (marks_after m c x) (epoch_after last x) done.0 b answers done.2 (step c m last a done.0 x done.1 is).1
 
     -- the stamps that were installed are of the net's registry
-    stamp_of_one : (c : Command) (up : List Bool) (last : ℕ) (a b : Desk B) (x : CommandAnswer) → IsCarriedOut was_full c a x b → Stands up last a.controller → AreOfOne net.opening (stamp_by x)
-    stamp_of_one (Install kind root) up last a b (Ok (Some s)) done is = All-push (λ t. registry_name t ≡ registry_name net.opening) [] s (All-nil (λ t. registry_name t ≡ registry_name net.opening)) (of_one kind root up last a b s done is)
-    stamp_of_one (Install kind root) up last a b (Ok None) done is = absurd done
-    stamp_of_one (Install kind root) up last a b (Err why) done is = All-nil (λ t. registry_name t ≡ registry_name net.opening)
-    stamp_of_one (Inject source dest) up last a b x done is = no_stamp (λ t. registry_name t ≡ registry_name net.opening) x (step (Inject source dest) up last a b x done is).0
-    stamp_of_one (Retire floor) up last a b x done is = no_stamp (λ t. registry_name t ≡ registry_name net.opening) x (step (Retire floor) up last a b x done is).0
-    stamp_of_one (Down l) up last a b x done is = no_stamp (λ t. registry_name t ≡ registry_name net.opening) x (step (Down l) up last a b x done is).0
-    stamp_of_one (Up l) up last a b x done is = no_stamp (λ t. registry_name t ≡ registry_name net.opening) x (step (Up l) up last a b x done is).0
-    stamp_of_one Drain up last a b x done is = no_stamp (λ t. registry_name t ≡ registry_name net.opening) x (step Drain up last a b x done is).0
+    stamp_of_one : (c : Command) (m : LinkMarks) (last : ℕ) (a b : Desk B) (x : CommandAnswer) → IsCarriedOut was_full c a x b → Stands m last a.controller → AreOfOne net.opening (stamp_by x)
+    stamp_of_one (Install kind root) m last a b (Ok (Some s)) done is = All-push (λ t. registry_name t ≡ registry_name net.opening) [] s (All-nil (λ t. registry_name t ≡ registry_name net.opening)) (of_one kind root m last a b s done is)
+    stamp_of_one (Install kind root) m last a b (Ok None) done is = absurd done
+    stamp_of_one (Install kind root) m last a b (Err why) done is = All-nil (λ t. registry_name t ≡ registry_name net.opening)
+    stamp_of_one (Inject source dest) m last a b x done is = no_stamp (λ t. registry_name t ≡ registry_name net.opening) x (step (Inject source dest) m last a b x done is).0
+    stamp_of_one (Retire floor) m last a b x done is = no_stamp (λ t. registry_name t ≡ registry_name net.opening) x (step (Retire floor) m last a b x done is).0
+    stamp_of_one (Down l) m last a b x done is = no_stamp (λ t. registry_name t ≡ registry_name net.opening) x (step (Down l) m last a b x done is).0
+    stamp_of_one (Up l) m last a b x done is = no_stamp (λ t. registry_name t ≡ registry_name net.opening) x (step (Up l) m last a b x done is).0
+    stamp_of_one (Avoid l) m last a b x done is = no_stamp (λ t. registry_name t ≡ registry_name net.opening) x (step (Avoid l) m last a b x done is).0
+    stamp_of_one (Heed l) m last a b x done is = no_stamp (λ t. registry_name t ≡ registry_name net.opening) x (step (Heed l) m last a b x done is).0
+    stamp_of_one Drain m last a b x done is = no_stamp (λ t. registry_name t ≡ registry_name net.opening) x (step Drain m last a b x done is).0
 
-    pub stamps_of_one : (commands : List Command) (up : List Bool) (last : ℕ) (a b : Desk B) (answers : List CommandAnswer) → AreCarriedOut was_full commands a answers b → Stands up last a.controller → AreOfOne net.opening (stamps_in answers)
-    stamps_of_one commands up last a b [] done is = All-nil (λ t. registry_name t ≡ registry_name net.opening)
-    stamps_of_one [] up last a b (x ∷ answers) done is = absurd done
-    stamps_of_one (c ∷ commands) up last a b (x ∷ answers) done is =
-        All-append (λ t. registry_name t ≡ registry_name net.opening) (stamp_by x) (stamps_in answers) (stamp_of_one c up last a done.0 x done.1 is)
-        (stamps_of_one commands (up_after up c x) (epoch_after last x) done.0 b answers done.2 (step c up last a done.0 x done.1 is).1)
+    pub stamps_of_one : (commands : List Command) (m : LinkMarks) (last : ℕ) (a b : Desk B) (answers : List CommandAnswer) → AreCarriedOut was_full commands a answers b → Stands m last a.controller → AreOfOne net.opening (stamps_in answers)
+    stamps_of_one commands m last a b [] done is = All-nil (λ t. registry_name t ≡ registry_name net.opening)
+    stamps_of_one [] m last a b (x ∷ answers) done is = absurd done
+    stamps_of_one (c ∷ commands) m last a b (x ∷ answers) done is =
+        All-append (λ t. registry_name t ≡ registry_name net.opening) (stamp_by x) (stamps_in answers) (stamp_of_one c m last a done.0 x done.1 is)
+        (stamps_of_one commands (marks_after m c x) (epoch_after last x) done.0 b answers done.2 (step c m last a done.0 x done.1 is).1)
 
 kept_never : (p : ℕ → Bool) (xs ys : List Entry) → ys ≡ xs → NeverCurrent p xs → NeverCurrent p ys
 kept_never p xs ys same never = subst (NeverCurrent p) (sym same) never
@@ -246,6 +277,8 @@ module _ {B : Type 0} (was_full : Word Parcel) (p : ℕ → Bool) where
   step_never (Retire floor) a b x done none never = changed_never _ (change.Retire floor) a b x done (λ board. refl) never
   step_never (Down l) a b x done none never = changed_never _ (change.Down l) a b x done (λ board. refl) never
   step_never (Up l) a b x done none never = changed_never _ (change.Up l) a b x done (λ board. refl) never
+  step_never (Avoid l) a b x done none never = changed_never _ (change.Avoid l) a b x done (λ board. refl) never
+  step_never (Heed l) a b x done none never = changed_never _ (change.Heed l) a b x done (λ board. refl) never
   step_never Drain a b x done none never = moved_never a b done.2 never
 
   pub never_all : (commands : List Command) (a b : Desk B) (answers : List CommandAnswer) → AreCarriedOut was_full commands a answers b → AllByRecursion (λ s. p s.epoch ≡ false) (stamps_in answers) → NeverCurrent p (published a.controller.writer) → NeverCurrent p (published b.controller.writer)
@@ -258,12 +291,14 @@ module _ {B : Type 0} (was_full : Word Parcel) (p : ℕ → Bool) where
 
 -- as the parts are handed out
 module _ {B : Type 0} (net : Net) (nodes : List Node) (opened : Desk B) (fresh : AreFreshParts net nodes opened.injector opened.controller) where
-  pub stands_first : Stands net opened.controller (replicate (length net.topology.links) true) 1 opened.controller
+  pub stands_first : Stands net opened.controller (all_marked (length net.topology.links)) 1 opened.controller
   stands_first = record {
     opening = fresh.controller_opening;
     labels = fresh.controller_labels;
     board = refl;
     ups = ap (λ (xs : List Entry). take (length net.topology.links) (board_of xs).up) fresh.board
+        ∙ take-replicate (length net.topology.links) MAX_LINKS true (let few = net.opened.few_links in few);
+    heeds = ap (λ (xs : List Entry). take (length net.topology.links) (board_of xs).heeded) fresh.board
         ∙ take-replicate (length net.topology.links) MAX_LINKS true (let few = net.opened.few_links in few);
     used = (let u = fresh.used in omega (arith, u));
   }

@@ -7,7 +7,7 @@ use Rattle.std.proofs.lemmas.Option.{same_Some, none-some}
 use Rattle.std.proofs.Math.Logic.{∥∥₁_elim, ∥∥₁_prop}
 use Rattle.ir_core.specs.declared.packet.Restamp.{Restamp}
 use Rattle.ir_core.specs.declared.command.Command.{Command}
-use Rattle.ir_core.specs.declared.command.Command.TheVariants.{Inject, Install, Retire, Down, Up, Drain}
+use Rattle.ir_core.specs.declared.command.Command.TheVariants.{Inject, Install, Retire, Down, Up, Avoid, Heed, Drain}
 use Rattle.ir_core.specs.Record.{Record, segments, segments_in, until}
 use Rattle.ir_core.specs.Sound.{IsSoundBy, IsSoundRecord}
 use Rattle.ir_epochs.specs.declared.registry.Stamp.{Stamp}
@@ -84,6 +84,8 @@ module _ (whole : List Stamp) where
   entered id epoch (Retire floor) x there = tt
   entered id epoch (Down link) x there = tt
   entered id epoch (Up link) x there = tt
+  entered id epoch (Avoid link) x there = tt
+  entered id epoch (Heed link) x there = tt
   entered id epoch Drain x there = tt
 
   after : (epoch : ℕ) (x : CommandAnswer) (answers : List CommandAnswer) → among whole epoch ≡ true → AllByRecursion (λ s. among whole s.epoch ≡ true) (stamps_in (x ∷ answers)) →

@@ -6,10 +6,11 @@ use Rattle.std.proofs.lemmas.Option.{slice_get-map, slice_get_read}
 use Rattle.ir_model.specs.Topology.{Topology, restrict}
 use Rattle.ir_core.specs.declared.TheConstants.{MAX_LINKS}
 use Rattle.ir_core.specs.declared.board.Board.{Board}
-use Rattle.ir_core.specs.Board.{opening_board}
+use Rattle.ir_core.specs.Board.{opening_board, links_used}
+use Rattle.ir_core.proofs.Used.{length_both}
 use Rattle.ir_epochs.specs.declared.registry.Stamp.{Stamp}
 use Rattle.ir_epochs.specs.declared.entry.Change.{Change}
-use Rattle.ir_epochs.specs.declared.entry.Change.TheVariants.{Install, Retire, Down, Up}
+use Rattle.ir_epochs.specs.declared.entry.Change.TheVariants.{Install, Retire, Down, Up, Avoid, Heed}
 use Rattle.ir_epochs.specs.declared.entry.Entry.{Entry}
 use Rattle.ir_epochs.specs.declared.entry.Entry.TheVariants.{Opened, Changed}
 use Rattle.ir_epochs.specs.Entries.{registry_of, topology_of, board_of, entered, changed, MayComeNext}
@@ -26,20 +27,28 @@ use Rattle.ir_core.specs.Sound.{last_of}
 use Rattle.ir_control.specs.Outs.{AreEntryEnds, SentTo, IsSent}
 use Rattle.std.proofs.Math.Seq.{map-set_same}
 
-changed_marks : (b : Board) (c : Change) → length b.up ≡ MAX_LINKS → length (changed b c).up ≡ MAX_LINKS
+-- a board has a mark of both sorts for each number that a link may have
+abbrev IsMarked : Board → Type 0
+IsMarked b = (length b.up ≡ MAX_LINKS) × (length b.heeded ≡ MAX_LINKS)
+
+changed_marks : (b : Board) (c : Change) → IsMarked b → IsMarked (changed b c)
 changed_marks b (Install s) h = h
 changed_marks b (Retire f) h = h
-changed_marks b (Down l) h = length-set b.up l _ ∙ h
-changed_marks b (Up l) h = length-set b.up l _ ∙ h
+changed_marks b (Down l) h = (length-set b.up l _ ∙ h.0, h.1)
+changed_marks b (Up l) h = (length-set b.up l _ ∙ h.0, h.1)
+changed_marks b (Avoid l) h = (h.0, length-set b.heeded l _ ∙ h.1)
+changed_marks b (Heed l) h = (h.0, length-set b.heeded l _ ∙ h.1)
 
-marks_from : (b : Board) (entries : List Entry) → length b.up ≡ MAX_LINKS → length (fold entered b entries).up ≡ MAX_LINKS
+opening_marks : IsMarked opening_board
+opening_marks = (length-replicate {A = Bool} MAX_LINKS true, length-replicate {A = Bool} MAX_LINKS true)
+
+marks_from : (b : Board) (entries : List Entry) → IsMarked b → IsMarked (fold entered b entries)
 marks_from b [] h = h
-marks_from b (Opened links s ∷ entries) h = marks_from opening_board entries (length-replicate {A = Bool} MAX_LINKS true)
+marks_from b (Opened links s ∷ entries) h = marks_from opening_board entries opening_marks
 marks_from b (Changed c ∷ entries) h = marks_from (changed b c) entries (changed_marks b c h)
 
--- each board has a mark for each number that a link may have
-pub marks_len : (entries : List Entry) → length (board_of entries).up ≡ MAX_LINKS
-marks_len entries = marks_from opening_board entries (length-replicate {A = Bool} MAX_LINKS true)
+marks_len : (entries : List Entry) → IsMarked (board_of entries)
+marks_len entries = marks_from opening_board entries opening_marks
 
 -- an end that is at a place is of that place's line
 pub place_of_end : (o : Stamp) (restamps : ℕ) (outs : List (Sender Place Parcel)) (u : ℕ) (s : Sender Place Parcel) → AreEntryEnds o restamps (lines_out outs) → slice_get outs u ≡ Some s
@@ -76,21 +85,24 @@ pub sent_by : (outs : List (Sender Place Parcel)) (u : ℕ) (s new : Sender Plac
     → new ≡ record s { sent = s.sent ++ x ∷ [] } → SentTo outs (slice_set outs u new) u x
 sent_by outs u s new x lt read e = (s, slice_get_read outs (length outs) u s refl lt read, ap (slice_set outs u) e)
 
--- the links that are up are some of the links
-pub over_up : (net : Topology) (up : List Bool) → length net.links ≤ length up → IsOver net (restrict (take (length net.links) up) net)
-over_up net up h = ∣ (take (length net.links) up, length-take-le (length net.links) up h, refl) ∣₁
+-- the links that installs use are some of the links
+over_used : (net : Topology) (b : Board) → IsMarked b → length net.links ≤ MAX_LINKS → IsOver net (restrict (links_used b (length net.links)) net)
+over_used net b h few =
+    let a = length-take-le (length net.links) b.up (omega (arith, h.0, few)) in
+    let k = length-take-le (length net.links) b.heeded (omega (arith, h.1, few)) in
+    ∣ (links_used b (length net.links), length_both (take (length net.links) b.up) (take (length net.links) b.heeded) (a ∙ sym k) ∙ a, refl) ∣₁
 
 -- an install fits
 pub fits_install : (o s : Stamp) (entries : List Entry) (used : ℕ) → (board_of entries).current ≤ used → s.epoch ≡ used + 1 → registry_name s ≡ registry_name o → registry_of entries ≡ registry_name o
     → topology_of entries ≡ (knows o).topology → length (knows o).topology.links ≤ MAX_LINKS
-    → (knows s).topology ≡ restrict (take (length (knows o).topology.links) (board_of entries).up) (knows o).topology
+    → (knows s).topology ≡ restrict (links_used (board_of entries) (length (knows o).topology.links)) (knows o).topology
     → MayComeNext entries (Install s)
 fits_install o s entries used below epoch registry same topology few made = (
   (let e = epoch in omega (arith, below, e)),
   registry ∙ sym same,
   subst (λ (net : Topology). IsOver net (knows s).topology) (sym topology)
       (subst (λ (net : Topology). IsOver (knows o).topology net) (sym made)
-      (over_up (knows o).topology (board_of entries).up (let n = marks_len entries in omega (arith, few, n)))),
+      (over_used (knows o).topology (board_of entries) (marks_len entries) few)),
 )
 
 -- an end whose push was refused is as it was

@@ -1,5 +1,5 @@
 -- Why there is no plan over a network one of whose nodes is the root.
-use Rattle.std.specs.Prelude.{◌≡◌, ◌⊎◌, ℕ, ◌<◌, length, take}
+use Rattle.std.specs.Prelude.{◌≡◌, ◌⊎◌, ℕ, ◌<◌, length}
 use Rattle.std.proofs.Common.{refl, arith, subst, inl, inr}
 use Rattle.ir_model.specs.Topology.{Topology, node_count, restrict}
 use Rattle.ir_model.specs.Walk.{IsDisconnected}
@@ -9,6 +9,7 @@ use Rattle.ir_plan.specs.declared.error.PlanError.TheVariants as plan
 use Rattle.ir_plan.specs.declared.tour.LabelOrder.{LabelOrder}
 use Rattle.ir_plan.specs.Building.{FromRoot, RefusesPlan}
 use Rattle.ir_core.specs.declared.board.Board.{Board}
+use Rattle.ir_core.specs.Board.{links_used}
 use Rattle.ir_core.specs.declared.event.OpenError.TheVariants as open_error
 use Rattle.ir_core.specs.declared.event.Refused.TheVariants as refused
 use Rattle.ir_core.specs.Codes.{open_error_of, refused_of}
@@ -24,14 +25,14 @@ first_refused topology over same labels root within e why = from e (subst (λ (n
     from plan.Empty is = absurd (omega (arith, is, within))
     from plan.NoNode is = absurd (omega (arith, is.1, within))
 
--- the links of a network that are up in a board
+-- a network over the links that are up and heeded in a board
 abbrev pub up_in : Topology → Board → Topology
-up_in topology board = restrict (take (length topology.links) board.up) topology
+up_in topology board = restrict (links_used board (length topology.links)) topology
 
--- of a later one, over the links that are up
+-- of a later one, over those links
 pub later_refused : (topology net : Topology) (board b : Board) → net ≡ topology → b ≡ board → (labels : LabelOrder) (root : ℕ) → root < node_count topology → (e : PlanError) →
-    RefusesPlan (restrict (take (length net.links) b.up) net) (FromRoot labels root) e →
-    ((refused_of e ≡ refused.Disconnected) × IsDisconnected (restrict (take (length topology.links) board.up) topology)) ⊎ (refused_of e ≡ refused.NoMemory)
+    RefusesPlan (restrict (links_used b (length net.links)) net) (FromRoot labels root) e →
+    ((refused_of e ≡ refused.Disconnected) × IsDisconnected (restrict (links_used board (length topology.links)) topology)) ⊎ (refused_of e ≡ refused.NoMemory)
 later_refused topology net board b same is labels root within e why =
     from e (subst (λ (x : Board). RefusesPlan (up_in topology x) (FromRoot labels root) e) is
     (subst (λ (x : Topology). RefusesPlan (up_in x b) (FromRoot labels root) e) same why))
@@ -39,5 +40,5 @@ later_refused topology net board b same is labels root within e why =
     from : (e : PlanError) → RefusesPlan (up_in topology board) (FromRoot labels root) e → ((refused_of e ≡ refused.Disconnected) × IsDisconnected (up_in topology board)) ⊎ (refused_of e ≡ refused.NoMemory)
     from plan.Disconnected is = inl (refl, is.2)
     from plan.NoMemory is = inr refl
-    from plan.Empty is = absurd (let count = node_count-restrict (take (length topology.links) board.up) topology in omega (arith, count, is, within))
-    from plan.NoNode is = absurd (let count = node_count-restrict (take (length topology.links) board.up) topology in omega (arith, count, is.1, within))
+    from plan.Empty is = absurd (let count = node_count-restrict (links_used board (length topology.links)) topology in omega (arith, count, is, within))
+    from plan.NoNode is = absurd (let count = node_count-restrict (links_used board (length topology.links)) topology in omega (arith, count, is.1, within))

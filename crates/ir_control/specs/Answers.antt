@@ -2,7 +2,7 @@
 use Rattle.std.specs.Prelude.{ℕ, ◌+◌, List, [], ◌∷◌, ◌++◌, Option, Some, None, Result, Ok, Err, length, nat_lt, cond}
 use Rattle.ir_core.specs.declared.event.Refused.{Refused}
 use Rattle.ir_core.specs.declared.command.Command.{Command}
-use Rattle.ir_core.specs.declared.command.Command.TheVariants.{Inject, Install, Retire, Down, Up, Drain}
+use Rattle.ir_core.specs.declared.command.Command.TheVariants.{Inject, Install, Retire, Down, Up, Avoid, Heed, Drain}
 use Rattle.ir_epochs.specs.declared.registry.Stamp.{Stamp}
 use Rattle.ir_control.specs.declared.injector.Accepted.{Accepted}
 
@@ -44,6 +44,8 @@ accepted_by id epoch (Install kind root) answer = []
 accepted_by id epoch (Retire floor) answer = []
 accepted_by id epoch (Down link) answer = []
 accepted_by id epoch (Up link) answer = []
+accepted_by id epoch (Avoid link) answer = []
+accepted_by id epoch (Heed link) answer = []
 accepted_by id epoch Drain answer = []
 
 -- The packets of the commands that inject and were not refused, in order: numbered from `id` on, each stamped with the

@@ -4,8 +4,8 @@ use Rattle.ir_model.specs.declared.Kind.{Kind}
 use Rattle.ir_core.specs.declared.board.Board.{Board}
 use Rattle.ir_core.specs.declared.event.Refused.{Refused}
 use Rattle.ir_core.specs.declared.command.Command.{Command}
-use Rattle.ir_core.specs.declared.command.Command.TheVariants.{Inject, Install, Retire, Down, Up, Drain}
-use Rattle.ir_core.specs.Refusals.{retire_refused, mark_refused}
+use Rattle.ir_core.specs.declared.command.Command.TheVariants.{Inject, Install, Retire, Down, Up, Avoid, Heed, Drain}
+use Rattle.ir_core.specs.Refusals.{retire_refused, mark_refused, heed_refused}
 use Rattle.ir_epochs.specs.declared.handles.Receipt.{Receipt}
 use Rattle.ir_epochs.specs.declared.entry.Change.{Change}
 use Rattle.ir_epochs.specs.declared.entry.Change.TheVariants as change
@@ -84,6 +84,8 @@ module _ (was_full : Word Parcel) {B : Type 0} where
   IsCarriedOut (Retire floor) before answer after = IsChangedAs (retire_refused (desk_board before) floor) (change.Retire floor) before answer after
   IsCarriedOut (Down link) before answer after = IsChangedAs (mark_refused (desk_links before) (desk_board before) link false) (change.Down link) before answer after
   IsCarriedOut (Up link) before answer after = IsChangedAs (mark_refused (desk_links before) (desk_board before) link true) (change.Up link) before answer after
+  IsCarriedOut (Avoid link) before answer after = IsChangedAs (heed_refused (desk_links before) (desk_board before) link false) (change.Avoid link) before answer after
+  IsCarriedOut (Heed link) before answer after = IsChangedAs (heed_refused (desk_links before) (desk_board before) link true) (change.Heed link) before answer after
   IsCarriedOut Drain before answer after =
       (answer ≡ Ok None) × (after.injector ≡ before.injector) × (after.controller ≡ before.controller)
 

@@ -1,5 +1,5 @@
 -- What a controller refuses, and what it changes.
-use Rattle.std.specs.Prelude.{◌≡◌, ◌⊎◌, ℕ, ◌+◌, Bool, List, ◌∷◌, ◌++◌, [], length, take, Option, Some, None, Result, MatchResult}
+use Rattle.std.specs.Prelude.{◌≡◌, ◌⊎◌, ℕ, ◌+◌, Bool, List, ◌∷◌, ◌++◌, [], length, Option, Some, None, Result, MatchResult}
 use Rattle.std.specs.Arc.{arc_value}
 use Rattle.ir_model.specs.declared.Kind.{Kind}
 use Rattle.ir_model.specs.Topology.{Topology, node_count, restrict}
@@ -8,7 +8,8 @@ use Rattle.ir_model.specs.Walk.{IsDisconnected}
 use Rattle.ir_core.specs.declared.event.Refused.{Refused}
 use Rattle.ir_core.specs.declared.event.Refused.TheVariants.{Disconnected, NoMemory, Used}
 use Rattle.ir_core.specs.declared.board.Board.{Board}
-use Rattle.ir_core.specs.Refusals.{install_refused, retire_refused, mark_refused}
+use Rattle.ir_core.specs.Refusals.{install_refused, retire_refused, mark_refused, heed_refused}
+use Rattle.ir_core.specs.Board.{links_used}
 use Rattle.ir_core.specs.Meaning.{IsMade}
 use Rattle.ir_epochs.specs.declared.registry.Stamp.{Stamp}
 use Rattle.ir_epochs.specs.declared.handles.Receipt.{Receipt}
@@ -38,12 +39,16 @@ module _ {R : Type 0} where
   abbrev pub IsReadBy : Controller R → Node → Type 0
   IsReadBy c n = reader_board n.reader ≡ writer_board c.writer
 
-  -- why it does not retire the epochs below a floor, and why it does not mark a link
+  -- why it does not retire the epochs below a floor, why it does not mark a link, and why its installs do not heed or
+  -- avoid one
   abbrev pub retiring_refused : Controller R → ℕ → Option Refused
   retiring_refused c floor = retire_refused (newest_board c) floor
 
   abbrev pub marking_refused : Controller R → ℕ → Bool → Option Refused
   marking_refused c link up = mark_refused (length (knows c.opening).topology.links) (newest_board c) link up
+
+  abbrev pub heeding_refused : Controller R → ℕ → Bool → Option Refused
+  heeding_refused c link heed = heed_refused (length (knows c.opening).topology.links) (newest_board c) link heed
 
   -- it is the same controller, which has published this one change more; the receipt says so
   pub record Publishes (before after : Controller R) (c : Change) (t : Receipt) : Type 0 where
@@ -69,9 +74,9 @@ module _ {R : Type 0} where
       (λ t. (refused ≡ None) × Publishes before after c t)
       (λ e. IsRefusedBy e refused × PublishesNothing before after)
 
-  -- the network over the links that are up in the controller's board
+  -- the network over the links that are up and heeded in the controller's board
   abbrev pub topology_up : Controller R → Topology
-  topology_up c = restrict (take (length (knows c.opening).topology.links) (board_of (published c.writer)).up) (knows c.opening).topology
+  topology_up c = restrict (links_used (board_of (published c.writer)) (length (knows c.opening).topology.links)) (knows c.opening).topology
 
   abbrev pub install_refusal : Controller R → ℕ → Option Refused
   install_refusal c root = install_refused (node_count (knows c.opening).topology) c.used (board_of (published c.writer)) root
@@ -80,14 +85,14 @@ module _ {R : Type 0} where
   IsInstallRefusedBy c error (Some e) = error ≡ e
   IsInstallRefusedBy c error None = ((error ≡ Disconnected) × IsDisconnected (topology_up c)) ⊎ ((error ≡ NoMemory) ⊎ (error ≡ Used))
 
-  -- a plan of this kind and root over the links that are up, labelled in the controller's order; or why there is none
+  -- a plan of this kind and root over the links that are up and heeded, labelled in the controller's order; or why there is none
   abbrev pub IsPlanAnswer : Kind → ℕ → Controller R → Result Plan Refused → Type 0
   IsPlanAnswer kind root c answer = MatchResult answer
       (λ plan. IsMade c.labels kind root (topology_up c) (Some plan))
       (λ e. ((e ≡ Disconnected) × IsDisconnected (topology_up c)) ⊎ (e ≡ NoMemory))
 
-  -- The stamp of the next cell, which knows a plan of this kind and root over the links that were up, labelled in the
-  -- controller's order, was installed.
+  -- The stamp of the next cell, which knows a plan of this kind and root over the links that were up and heeded,
+  -- labelled in the controller's order, was installed.
   pub record Installs (kind : Kind) (root : ℕ) (before after : Controller R) (t : Receipt) : Type 0 where
     pub allowed : install_refusal before root ≡ None
     pub stamp : Stamp

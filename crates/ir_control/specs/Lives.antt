@@ -1,5 +1,5 @@
 -- What a live run answers.
-use Rattle.std.specs.Prelude.{◌≡◌, ◌≢◌, ℕ, ◌<◌, true, List, ◌∷◌, All, Some, length, replicate, slice_get, slice_index_or}
+use Rattle.std.specs.Prelude.{◌≡◌, ◌≢◌, ℕ, ◌<◌, List, ◌∷◌, All, Some, length, slice_get, slice_index_or}
 use mathlib.Core.List.{IsPrefix}
 use Rattle.ir_model.specs.Topology.{node_count}
 use Rattle.ir_core.specs.Sound.{IsSoundRecord}
@@ -28,7 +28,7 @@ use Rattle.ir_control.specs.declared.live.Live.{Live}
 use Rattle.ir_control.specs.declared.live.LiveError.{LiveError}
 use Rattle.ir_control.specs.declared.live.LiveError.TheVariants.{Spent, NoThread, NoMemory, TooManyReaders}
 use Rattle.ir_control.specs.Answers.{CommandAnswer, refusals_from, accepted_from}
-use Rattle.ir_control.specs.Planned.{Planned, planned, stamps_in, IsPlanIn, AreAsked}
+use Rattle.ir_control.specs.Planned.{Planned, planned, stamps_in, IsPlanIn, all_marked, AreAsked}
 use Rattle.ir_control.specs.Carried.{AreCarriedOut}
 
 -- the same nodes, in the same order
@@ -105,10 +105,10 @@ pub record AreSoundByPlans (net : Net) (commands : List Command) (answers : List
   pub plans : List Planned
   pub plans_are :
       plans ≡ record { epoch = 1; plan = first_plan net } ∷ planned (stamps_in answers)
-  -- its plan is of the kind and root that were asked for, over the links that were up then, in
-  -- the net's order of labels; at first all are up
-  pub asked : AreAsked net.labels net.topology (replicate (length net.topology.links) true) 1
-      commands answers
+  -- its plan is of the kind and root that were asked for, over the links that were up and
+  -- heeded then, in the net's order of labels; at first all are
+  pub asked : AreAsked net.labels net.topology (all_marked (length net.topology.links)) 1 commands
+      answers
   pub sound : All (λ r. ∥ IsSoundRecord net.restamps (IsPlanIn plans) r ∥₁) records
 
 -- A live run of a net. The words record refused pushes and pops, looks at the board, and after how

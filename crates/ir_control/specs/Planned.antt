@@ -1,11 +1,12 @@
 -- The epochs that commands install, and what their plans are asked for.
-use Rattle.std.specs.Prelude.{◌≡◌, ℕ, ◌<◌, Bool, true, false, List, [], ◌∷◌, ◌++◌, Some, None, Ok, Err, Contains, slice_set}
+use Rattle.std.specs.Prelude.{◌≡◌, ℕ, ◌<◌, Bool, true, false, List, [], ◌∷◌, ◌++◌, Some, None, Ok, Err, Contains, replicate, slice_set}
 use Rattle.ir_model.specs.Topology.{Topology, restrict}
 use Rattle.ir_model.specs.Plan.{Plan}
 use Rattle.ir_plan.specs.declared.tour.LabelOrder.{LabelOrder}
+use Rattle.ir_core.specs.Marks.{both}
 use Rattle.ir_core.specs.Meaning.{IsMade}
 use Rattle.ir_core.specs.declared.command.Command.{Command}
-use Rattle.ir_core.specs.declared.command.Command.TheVariants.{Inject, Install, Retire, Down, Up, Drain}
+use Rattle.ir_core.specs.declared.command.Command.TheVariants.{Inject, Install, Retire, Down, Up, Avoid, Heed, Drain}
 use Rattle.ir_epochs.specs.declared.registry.Stamp.{Stamp}
 use Rattle.ir_epochs.specs.Stamps.{knows}
 use Rattle.ir_control.specs.Answers.{CommandAnswer, epoch_after}
@@ -34,32 +35,52 @@ planned (s ∷ stamps) = record { epoch = s.epoch; plan = knows s } ∷ planned 
 abbrev pub IsPlanIn : List Planned → ℕ → Plan → Type 0
 IsPlanIn plans epoch plan = Contains plans (record { epoch = epoch; plan = plan })
 
--- which links are up after a command, by its answer
-abbrev pub up_after : List Bool → Command → CommandAnswer → List Bool
-up_after up (Down link) (Ok installed) = slice_set up link false
-up_after up (Down link) (Err why) = up
-up_after up (Up link) (Ok installed) = slice_set up link true
-up_after up (Up link) (Err why) = up
-up_after up (Inject source dest) answer = up
-up_after up (Install kind root) answer = up
-up_after up (Retire floor) answer = up
-up_after up Drain answer = up
+-- for each link whether it is up, and whether installs heed it
+pub record LinkMarks : Type 0 where
+  pub up : List Bool
+  pub heeded : List Bool
+
+-- at first all are up and heeded
+abbrev pub all_marked : ℕ → LinkMarks
+all_marked links = record { up = replicate links true; heeded = replicate links true }
+
+-- the links that installs use
+abbrev pub used_in : LinkMarks → List Bool
+used_in marks = both marks.up marks.heeded
+
+-- these marks after a command, by its answer
+abbrev pub marks_after : LinkMarks → Command → CommandAnswer → LinkMarks
+marks_after marks (Down link) (Ok installed) = record marks { up = slice_set marks.up link false }
+marks_after marks (Down link) (Err why) = marks
+marks_after marks (Up link) (Ok installed) = record marks { up = slice_set marks.up link true }
+marks_after marks (Up link) (Err why) = marks
+marks_after marks (Avoid link) (Ok installed) = record marks { heeded = slice_set marks.heeded link false }
+marks_after marks (Avoid link) (Err why) = marks
+marks_after marks (Heed link) (Ok installed) = record marks { heeded = slice_set marks.heeded link true }
+marks_after marks (Heed link) (Err why) = marks
+marks_after marks (Inject source dest) answer = marks
+marks_after marks (Install kind root) answer = marks
+marks_after marks (Retire floor) answer = marks
+marks_after marks Drain answer = marks
 
 -- An install that is accepted has a later epoch than all before it, and a plan of the command's kind and root over the links
--- that are up, labelled in the net's order. No other command installs.
+-- that installs use, labelled in the net's order. No other command installs.
 abbrev pub IsAsked : LabelOrder → Topology → List Bool → ℕ → Command → CommandAnswer → Type 0
-IsAsked labels net up last (Install kind root) (Ok None) = ⊥
-IsAsked labels net up last (Install kind root) (Ok (Some s)) = (last < s.epoch) × IsMade labels kind root (restrict up net) (Some (knows s))
-IsAsked labels net up last (Install kind root) (Err why) = Unit {0}
-IsAsked labels net up last (Inject source dest) answer = stamp_by answer ≡ []
-IsAsked labels net up last (Retire floor) answer = stamp_by answer ≡ []
-IsAsked labels net up last (Down link) answer = stamp_by answer ≡ []
-IsAsked labels net up last (Up link) answer = stamp_by answer ≡ []
-IsAsked labels net up last Drain answer = stamp_by answer ≡ []
+IsAsked labels net used last (Install kind root) (Ok None) = ⊥
+IsAsked labels net used last (Install kind root) (Ok (Some s)) = (last < s.epoch) × IsMade labels kind root (restrict used net) (Some (knows s))
+IsAsked labels net used last (Install kind root) (Err why) = Unit {0}
+IsAsked labels net used last (Inject source dest) answer = stamp_by answer ≡ []
+IsAsked labels net used last (Retire floor) answer = stamp_by answer ≡ []
+IsAsked labels net used last (Down link) answer = stamp_by answer ≡ []
+IsAsked labels net used last (Up link) answer = stamp_by answer ≡ []
+IsAsked labels net used last (Avoid link) answer = stamp_by answer ≡ []
+IsAsked labels net used last (Heed link) answer = stamp_by answer ≡ []
+IsAsked labels net used last Drain answer = stamp_by answer ≡ []
 
--- So it is with each command and its answer, in order, where these links are up and this is the greatest epoch before them.
-abbrev pub AreAsked : LabelOrder → Topology → List Bool → ℕ → List Command → List CommandAnswer → Type 0
-AreAsked labels net up last [] answers = Unit {0}
-AreAsked labels net up last (c ∷ commands) [] = Unit {0}
-AreAsked labels net up last (c ∷ commands) (answer ∷ answers) =
-    IsAsked labels net up last c answer × AreAsked labels net (up_after up c answer) (epoch_after last answer) commands answers
+-- So it is with each command and its answer, in order, where the links have these marks and this is the greatest epoch
+-- before them.
+abbrev pub AreAsked : LabelOrder → Topology → LinkMarks → ℕ → List Command → List CommandAnswer → Type 0
+AreAsked labels net marks last [] answers = Unit {0}
+AreAsked labels net marks last (c ∷ commands) [] = Unit {0}
+AreAsked labels net marks last (c ∷ commands) (answer ∷ answers) =
+    IsAsked labels net (used_in marks) last c answer × AreAsked labels net (marks_after marks c answer) (epoch_after last answer) commands answers

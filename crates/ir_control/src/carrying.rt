@@ -65,6 +65,8 @@ fn carry_out<R: Threads + Moments<Parcel> + Sync, B: Wait + Drop>(
         Command::Retire(floor) => answered(parts.controller.retire(floor).err()),
         Command::Down(link) => answered(parts.controller.down(link).err()),
         Command::Up(link) => answered(parts.controller.up(link).err()),
+        Command::Avoid(link) => answered(parts.controller.avoid(link).err()),
+        Command::Heed(link) => answered(parts.controller.heed(link).err()),
         Command::Drain => {
             bells.wait(rt, parts.injector.count());
             Ok(None)

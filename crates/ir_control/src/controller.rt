@@ -38,10 +38,10 @@ pub struct Controller<R: Wait + Drop> {
 }
 
 impl<R: Wait + Drop> Controller<R> {
-    ghost use Rattle.ir_control.specs.Changes.{published_by, newest_board, IsReadBy, retiring_refused, marking_refused};
+    ghost use Rattle.ir_control.specs.Changes.{published_by, newest_board, IsReadBy, retiring_refused, marking_refused, heeding_refused};
     ghost use Rattle.ir_worker.specs.Same.{known_to};
     ghost use Rattle.ir_control.specs.Changes.{install_refusal, IsChangeAnswer, IsInstallAnswer, IsPlanAnswer};
-    ghost use Rattle.ir_epochs.specs.declared.entry.Change.TheVariants.{Retire, Down, Up};
+    ghost use Rattle.ir_epochs.specs.declared.entry.Change.TheVariants.{Retire, Down, Up, Avoid, Heed};
     ghost use Rattle.std.specs.Prelude.{◌↔◌, IsTrue, true, false};
 
     /// The board as it is.
@@ -109,6 +109,41 @@ impl<R: Wait + Drop> Controller<R> {
         self.change(Change::Up(link))
     }
 
+    /// Leaves a link out of later installs; it still carries packets. Refused are, in this order: a number that is no
+    /// link, a link that is down (`LinkDown`), one that is avoided (`Same`), a change too many, want of memory.
+    pub fn avoid(&mut self, link: u16) -> Result<Receipt, Refused>
+        ensures answer { IsChangeAnswer (heeding_refused self.old link false) (Avoid link) self.old self.new result }
+        ensures number { IfErr result (λ e. 0 < change_number e) }
+    {
+        if let Some(error) = self.heed_refusal(link, false) {
+            return Err(error);
+        }
+        self.change(Change::Avoid(link))
+    }
+
+    /// Lets later installs use a link again. Refused are, in this order: a number that is no link, a link that is not
+    /// avoided (`Same`), a change too many, want of memory.
+    pub fn heed(&mut self, link: u16) -> Result<Receipt, Refused>
+        ensures answer { IsChangeAnswer (heeding_refused self.old link true) (Heed link) self.old self.new result }
+        ensures number { IfErr result (λ e. 0 < change_number e) }
+    {
+        if let Some(error) = self.heed_refusal(link, true) {
+            return Err(error);
+        }
+        self.change(Change::Heed(link))
+    }
+
+    // Why installs do not heed a link, or do not avoid it.
+    fn heed_refusal(&self, link: u16, heed: bool) -> Option<Refused>
+        ensures refusal { result ≡ heeding_refused self.now link heed }
+        ensures number { IfSome result (λ e. 0 < change_number e) }
+    {
+        let topology = self.registry.plan(&self.opening).topology();
+        self.writer
+            .board()
+            .heed_refusal(topology.links(), link, heed)
+    }
+
     // Why a link is not marked.
     fn mark_refusal(&self, link: u16, up: bool) -> Option<Refused>
         ensures refusal { result ≡ marking_refused self.now link up }
@@ -129,7 +164,7 @@ impl<R: Wait + Drop> Controller<R> {
             .install_refusal(topology.nodes(), self.used as usize, root)
     }
 
-    // The plan of this kind and root over the links that are up.
+    // The plan of this kind and root over the links that are up and heeded.
     fn plan(&self, rt: &(impl Threads + Sync), kind: Kind, root: u16) -> Result<Plan, Refused>
         requires { root < node_count (knows self.now.opening).topology }
         ensures answer { IsPlanAnswer kind root self.now result }
@@ -144,8 +179,8 @@ impl<R: Wait + Drop> Controller<R> {
         Ok(plan)
     }
 
-    /// Builds a plan of this kind and root over the links that are up, labelled in the net's order, registers it in the
-    /// next cell, and makes it the current epoch. The receipt's stamp knows that plan.
+    /// Builds a plan of this kind and root over the links that are up and heeded, labelled in the net's order, registers
+    /// it in the next cell, and makes it the current epoch. The receipt's stamp knows that plan.
     ///
     /// Refused are, in this order: a root that is no node, no cell left, a change too many, some node without a walk to
     /// some node, want of memory. After `Used`, or after want of memory once the plan was registered, the cell is used

@@ -17,8 +17,8 @@ use Rattle.ir_core.specs.Record.{Record, hop_room}
 use Rattle.ir_core.specs.declared.packet.Held.{Held}
 use Rattle.ir_core.specs.Setting.{nodes_of, links_of, channel_of, into}
 use Rattle.ir_core.specs.declared.board.Board.{Board}
-use Rattle.ir_core.specs.Board.{marked, retired_below, installed}
-use Rattle.ir_core.specs.Refusals.{retire_refused, mark_refused}
+use Rattle.ir_core.specs.Board.{marked, heeding, retired_below, installed}
+use Rattle.ir_core.specs.Refusals.{retire_refused, mark_refused, heed_refused}
 use Rattle.ir_core.specs.Entry.{Entry, DidInject, DidLearn, DidTake, DidRead, DidAct, DidChange, DidInstall, fresh}
 use Rattle.ir_core.specs.Meaning.{newest, takes_from, takes_first, acts_on, installs_made, unless, install_refusal, InstallsUnless, ComesTo, record_at, ruling_on, is_full_towards}
 use Rattle.ir_core.specs.World.{World, IsWorld, sight_in, LeadsIn}
@@ -122,4 +122,6 @@ accepted_fits s ok (event.Act u) entry e =
 accepted_fits s ok (event.Retire f) entry e = change_fits s (retire_refused (newest (sight_in s)) f) (retired_below (newest (sight_in s)) f) entry e
 accepted_fits s ok (event.Down l) entry e = change_fits s (mark_refused (links_of s.opening) (newest (sight_in s)) l false) (marked (newest (sight_in s)) l false) entry e
 accepted_fits s ok (event.Up l) entry e = change_fits s (mark_refused (links_of s.opening) (newest (sight_in s)) l true) (marked (newest (sight_in s)) l true) entry e
+accepted_fits s ok (event.Avoid l) entry e = change_fits s (heed_refused (links_of s.opening) (newest (sight_in s)) l false) (heeding (newest (sight_in s)) l false) entry e
+accepted_fits s ok (event.Heed l) entry e = change_fits s (heed_refused (links_of s.opening) (newest (sight_in s)) l true) (heeding (newest (sight_in s)) l true) entry e
 accepted_fits s ok (event.Install kind root) entry e = install_fits s kind root entry (install_refusal s.opening (sight_in s) root) e

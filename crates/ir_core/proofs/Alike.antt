@@ -1,5 +1,5 @@
 -- The epochs of a run, and those of its controller's steps alone: they are built alike.
-use Rattle.std.proofs.Common.{◌≡◌, ◌≢◌, ℕ, zero, suc, ◌+◌, ◌-◌, List, [], ◌∷◌, ◌++◌, length, take, Option, Some, None, Bool, true, false, cond, refl, sym, ap, ◌∙◌, subst, inl, inr}
+use Rattle.std.proofs.Common.{◌≡◌, ◌≢◌, ℕ, zero, suc, ◌+◌, ◌-◌, List, [], ◌∷◌, ◌++◌, length, Option, Some, None, Bool, true, false, cond, refl, sym, ap, ◌∙◌, subst, inl, inr}
 use Rattle.std.specs.Prelude.{Result, Ok, Err, not, ◌||◌, ◌==◌, nat_lt, nat_le, is_some, slice_get}
 use Rattle.std.proofs.lemmas.Option.{none-some}
 use Rattle.std.proofs.lemmas.List.Elements.{All-head, All-tail}
@@ -12,8 +12,8 @@ use Rattle.ir_plan.specs.declared.tour.LabelOrder.{LabelOrder}
 use Rattle.ir_plan.specs.Starts.{IsLabelledBy}
 use Rattle.ir_core.specs.declared.opening.Opening.{Opening}
 use Rattle.ir_core.specs.declared.board.Board.{Board}
-use Rattle.ir_core.specs.Board.{marked, retired_below, installed}
-use Rattle.ir_core.specs.Refusals.{inject_refused, retire_refused, mark_refused, install_refused}
+use Rattle.ir_core.specs.Board.{links_used, marked, heeding, retired_below, installed}
+use Rattle.ir_core.specs.Refusals.{inject_refused, retire_refused, mark_refused, heed_refused, install_refused}
 use Rattle.ir_core.specs.declared.built.Install.{Install}
 use Rattle.ir_core.specs.declared.event.Event.{Event}
 use Rattle.ir_core.specs.declared.event.Event.TheVariants as event
@@ -30,10 +30,11 @@ use Rattle.ir_core.specs.Setting.{Setting, nodes_of, links_of, channel_of, into}
 use Rattle.ir_core.specs.Opened.{IsOpenedWith}
 use Rattle.ir_core.specs.Entry.{Entry, DidInject, DidLearn, DidTake, DidRead, DidAct, DidChange, DidInstall}
 use Rattle.ir_core.specs.History as history
-use Rattle.ir_core.specs.Meaning.{Sight, IsMade, ComesTo, InstallsUnless, unless, install_refusal, installs_made, topology_up, newest, newest_of, is_full, sight_after, with_entry, injects, learns, takes, takes_from, takes_first, reads, acts, acts_on, retires, marks}
+use Rattle.ir_core.specs.Meaning.{Sight, IsMade, ComesTo, InstallsUnless, unless, install_refusal, installs_made, topology_up, newest, newest_of, is_full, sight_after, with_entry, injects, learns, takes, takes_from, takes_first, reads, acts, acts_on, retires, marks, heeds}
 use Rattle.ir_core.specs.World.{World}
 use Rattle.ir_core.specs.Shows.{IsAnswered}
 use Rattle.ir_core.specs.Run.{IsStepAnswered, IsRun}
+use Rattle.ir_core.specs.Avoided.{made_by}
 use Rattle.ir_core.specs.Drain.{after_read, after_act, after_take, after_way, after_ports, after_visit, after_visits, after_rounds}
 use Rattle.ir_core.specs.Installed.{IsControlled, IsControlRun, AreBuiltFrom, IsPlainChange, NoneWantsMemory, AreEpochsOf}
 
@@ -88,8 +89,8 @@ twins_built o p same order (i ∷ installs) (s ∷ ss) (t ∷ ts) h built =
       twins_built o p same order installs ss ts h.1 built.1,
     )
 
--- Entries of the steps that are no controller's change neither boards nor plans.
-abbrev IsPassed : Result Entry Refused → Type 0
+-- Entries of the steps that are no controller's change neither boards nor plans, nor what the plans were made by.
+abbrev pub IsPassed : Result Entry Refused → Type 0
 IsPassed (Err e) = Unit {0}
 IsPassed (Ok (DidInject id e s d m)) = Unit {0}
 IsPassed (Ok (DidLearn e)) = Unit {0}
@@ -99,22 +100,23 @@ IsPassed (Ok (DidAct u id way restamp v)) = Unit {0}
 IsPassed (Ok (DidChange b)) = ⊥
 IsPassed (Ok (DidInstall e t b)) = ⊥
 
-record SameEpochs (o : Setting) (log later : List Entry) : Type 0 where
-  boards : history.boards later ≡ history.boards log
-  plans : history.plans o later ≡ history.plans o log
+pub record SameEpochs (o : Setting) (log later : List Entry) : Type 0 where
+  pub boards : history.boards later ≡ history.boards log
+  pub plans : history.plans o later ≡ history.plans o log
+  pub made : (e : ℕ) → made_by e later ≡ made_by e log
 
-passed_keeps : (o : Setting) (log : List Entry) (w : Result Entry Refused) → IsPassed w → SameEpochs o log (with_entry log w)
-passed_keeps o log (Err e) is = record { boards = refl; plans = refl }
-passed_keeps o log (Ok (DidInject id e s d m)) is = record { boards = refl; plans = refl }
-passed_keeps o log (Ok (DidLearn e)) is = record { boards = refl; plans = refl }
-passed_keeps o log (Ok (DidTake u way id)) is = record { boards = refl; plans = refl }
-passed_keeps o log (Ok (DidRead u k)) is = record { boards = refl; plans = refl }
-passed_keeps o log (Ok (DidAct u id way restamp v)) is = record { boards = refl; plans = refl }
+pub passed_keeps : (o : Setting) (log : List Entry) (w : Result Entry Refused) → IsPassed w → SameEpochs o log (with_entry log w)
+passed_keeps o log (Err e) is = record { boards = refl; plans = refl; made = λ e. refl }
+passed_keeps o log (Ok (DidInject id e s d m)) is = record { boards = refl; plans = refl; made = λ e. refl }
+passed_keeps o log (Ok (DidLearn e)) is = record { boards = refl; plans = refl; made = λ e. refl }
+passed_keeps o log (Ok (DidTake u way id)) is = record { boards = refl; plans = refl; made = λ e. refl }
+passed_keeps o log (Ok (DidRead u k)) is = record { boards = refl; plans = refl; made = λ e. refl }
+passed_keeps o log (Ok (DidAct u id way restamp v)) is = record { boards = refl; plans = refl; made = λ e. refl }
 passed_keeps o log (Ok (DidChange b)) is = absurd is
 passed_keeps o log (Ok (DidInstall e t b)) is = absurd is
 
 keeps_both : (o : Setting) (log mid later : List Entry) → SameEpochs o log mid → SameEpochs o mid later → SameEpochs o log later
-keeps_both o log mid later a b = record { boards = b.boards ∙ a.boards; plans = b.plans ∙ a.plans }
+keeps_both o log mid later a b = record { boards = b.boards ∙ a.boards; plans = b.plans ∙ a.plans; made = λ e. b.made e ∙ a.made e }
 
 -- what the steps that are no controller's come to
 one_of : (a : Bool) (w v : Result Entry Refused) → IsPassed w → IsPassed v → IsPassed (cond a w v)
@@ -125,13 +127,13 @@ unless_passed : (x : Option Refused) (w : Result Entry Refused) → IsPassed w �
 unless_passed (Some e) w p = tt
 unless_passed None w p = p
 
-injects_passed : (o : Setting) (s : Sight) (source dest : ℕ) → IsPassed (injects o s source dest)
+pub injects_passed : (o : Setting) (s : Sight) (source dest : ℕ) → IsPassed (injects o s source dest)
 injects_passed o s source dest =
     let did = DidInject s.injected s.learnt source dest (hop_room o.restamps (nodes_of o)) in
     unless_passed (inject_refused (nodes_of o) o.max_packets s.injected source dest) (cond (is_full o s (into o source Inbox)) (Err InboxFull) (Ok did))
     (one_of (is_full o s (into o source Inbox)) (Err InboxFull) (Ok did) tt tt)
 
-learns_passed : (s : Sight) (e : ℕ) → IsPassed (learns s e)
+pub learns_passed : (s : Sight) (e : ℕ) → IsPassed (learns s e)
 learns_passed s e = one_of ((e == 0) || nat_lt (newest s).current e) (Err NoEpoch) (Ok (DidLearn e)) tt tt
 
 first_passed : (u : ℕ) (way : Way) (x : Option ℕ) → IsPassed (takes_first u way x)
@@ -142,10 +144,10 @@ from_passed : (s : Sight) (u : ℕ) (way : Way) (x : Option ℕ) → IsPassed (t
 from_passed s u way None = tt
 from_passed s u way (Some c) = one_of (is_some (s.hand u)) (Err HandFull) (takes_first u way (slice_get (s.waiting c) 0)) tt (first_passed u way (slice_get (s.waiting c) 0))
 
-takes_passed : (o : Setting) (s : Sight) (u : ℕ) (way : Way) → IsPassed (takes o s u way)
+pub takes_passed : (o : Setting) (s : Sight) (u : ℕ) (way : Way) → IsPassed (takes o s u way)
 takes_passed o s u way = one_of (not (nat_lt u (nodes_of o))) (Err NoNode) (takes_from s u way (channel_of o u way)) tt (from_passed s u way (channel_of o u way))
 
-reads_passed : (o : Setting) (s : Sight) (u k : ℕ) → IsPassed (reads o s u k)
+pub reads_passed : (o : Setting) (s : Sight) (u k : ℕ) → IsPassed (reads o s u k)
 reads_passed o s u k =
     let old = nat_lt k (s.view u) || nat_le (length s.boards) k in
     one_of (not (nat_lt u (nodes_of o))) (Err NoNode) (cond old (Err BadView) (Ok (DidRead u k))) tt (one_of old (Err BadView) (Ok (DidRead u k)) tt tt)
@@ -154,7 +156,7 @@ on_passed : (o : Setting) (s : Sight) (u : ℕ) (x : Option Held) → IsPassed (
 on_passed o s u None = tt
 on_passed o s u (Some held) = tt
 
-acts_passed : (o : Setting) (s : Sight) (u : ℕ) → IsPassed (acts o s u)
+pub acts_passed : (o : Setting) (s : Sight) (u : ℕ) → IsPassed (acts o s u)
 acts_passed o s u = one_of (not (nat_lt u (nodes_of o))) (Err NoNode) (acts_on o s u (s.hand u)) tt (on_passed o s u (s.hand u))
 
 -- a drain changes neither boards nor plans
@@ -173,7 +175,7 @@ kept_way : (o : Setting) (u : ℕ) (way : Way) (log : List Entry) → SameEpochs
 kept_way o u way log = keeps_both o log (after_take o u way log) (after_way o u way log) (kept_take o u way log) (kept_act o u (after_take o u way log))
 
 kept_ports : (o : Setting) (u : ℕ) (hops : List Hop) (log : List Entry) → SameEpochs o log (after_ports o u hops log)
-kept_ports o u [] log = record { boards = refl; plans = refl }
+kept_ports o u [] log = record { boards = refl; plans = refl; made = λ e. refl }
 kept_ports o u (hop ∷ hops) log =
     keeps_both o log (after_way o u (Link hop.link) log) (after_ports o u (hop ∷ hops) log) (kept_way o u (Link hop.link) log) (kept_ports o u hops (after_way o u (Link hop.link) log))
 
@@ -186,11 +188,11 @@ kept_visit o u log =
     (keeps_both o seen acted (after_visit o u log) (kept_act o u seen) (keeps_both o acted came (after_visit o u log) (kept_way o u Inbox acted) (kept_ports o u (ports_of o.topology u) came)))
 
 kept_visits : (o : Setting) (k : ℕ) (log : List Entry) → SameEpochs o log (after_visits o k log)
-kept_visits o zero log = record { boards = refl; plans = refl }
+kept_visits o zero log = record { boards = refl; plans = refl; made = λ e. refl }
 kept_visits o (suc k) log = keeps_both o log (after_visits o k log) (after_visits o (suc k) log) (kept_visits o k log) (kept_visit o k (after_visits o k log))
 
-kept_rounds : (o : Setting) (k : ℕ) (log : List Entry) → SameEpochs o log (after_rounds o k log)
-kept_rounds o zero log = record { boards = refl; plans = refl }
+pub kept_rounds : (o : Setting) (k : ℕ) (log : List Entry) → SameEpochs o log (after_rounds o k log)
+kept_rounds o zero log = record { boards = refl; plans = refl; made = λ e. refl }
 kept_rounds o (suc k) log = keeps_both o log (after_rounds o k log) (after_rounds o (suc k) log) (kept_rounds o k log) (kept_visits o (nodes_of o) (after_rounds o k log))
 
 -- a step that is passed over leaves histories alike
@@ -199,7 +201,7 @@ alike_kept o p log mid other keeps is =
     record { boards = keeps.boards ∙ is.boards; plans = subst (λ (plans : List Plan). AreTwins o.labels plans (history.plans p other)) (sym keeps.plans) is.plans }
 
 -- what a change of the board comes to
-abbrev IsBoardChange : Result Entry Refused → Type 0
+abbrev pub IsBoardChange : Result Entry Refused → Type 0
 IsBoardChange (Err e) = Unit {0}
 IsBoardChange (Ok (DidChange b)) = Unit {0}
 IsBoardChange (Ok (DidInstall e t b)) = ⊥
@@ -213,10 +215,12 @@ change_or : (x : Option Refused) (board : Board) → IsBoardChange (unless x (Ok
 change_or (Some e) board = tt
 change_or None board = tt
 
-change_comes : (o : Setting) (s : Sight) (e : Event) → IsPlainChange e → (w : Result Entry Refused) → ComesTo o s e w → IsBoardChange w
+pub change_comes : (o : Setting) (s : Sight) (e : Event) → IsPlainChange e → (w : Result Entry Refused) → ComesTo o s e w → IsBoardChange w
 change_comes o s (event.Retire f) is w comes = subst IsBoardChange (sym comes) (change_or (retire_refused (newest s) f) (retired_below (newest s) f))
 change_comes o s (event.Down l) is w comes = subst IsBoardChange (sym comes) (change_or (mark_refused (links_of o) (newest s) l false) (marked (newest s) l false))
 change_comes o s (event.Up l) is w comes = subst IsBoardChange (sym comes) (change_or (mark_refused (links_of o) (newest s) l true) (marked (newest s) l true))
+change_comes o s (event.Avoid l) is w comes = subst IsBoardChange (sym comes) (change_or (heed_refused (links_of o) (newest s) l false) (heeding (newest s) l false))
+change_comes o s (event.Heed l) is w comes = subst IsBoardChange (sym comes) (change_or (heed_refused (links_of o) (newest s) l true) (heeding (newest s) l true))
 change_comes o s (event.Install kind root) is w comes = absurd is
 change_comes o s (event.Inject source dest) is w comes = absurd is
 change_comes o s (event.Learn e) is w comes = absurd is
@@ -230,10 +234,16 @@ module _ (o p : Setting) (over : o.topology ≡ p.topology) where
   marks_same s t l up same =
       ap (λ (boards : List Board). marks o (record s { boards = boards }) l up) same ∙ ap (λ (net : Topology). marks (record o { topology = net }) t l up) over
 
+  heeds_same : (s t : Sight) (l : ℕ) (heed : Bool) → s.boards ≡ t.boards → heeds o s l heed ≡ heeds p t l heed
+  heeds_same s t l heed same =
+      ap (λ (boards : List Board). heeds o (record s { boards = boards }) l heed) same ∙ ap (λ (net : Topology). heeds (record o { topology = net }) t l heed) over
+
   change_same : (s t : Sight) → s.boards ≡ t.boards → (e : Event) → IsPlainChange e → (w v : Result Entry Refused) → ComesTo o s e w → ComesTo p t e v → w ≡ v
   change_same s t same (event.Retire f) is w v comes goes = comes ∙ ap (λ (boards : List Board). retires (record s { boards = boards }) f) same ∙ sym goes
   change_same s t same (event.Down l) is w v comes goes = comes ∙ marks_same s t l false same ∙ sym goes
   change_same s t same (event.Up l) is w v comes goes = comes ∙ marks_same s t l true same ∙ sym goes
+  change_same s t same (event.Avoid l) is w v comes goes = comes ∙ heeds_same s t l false same ∙ sym goes
+  change_same s t same (event.Heed l) is w v comes goes = comes ∙ heeds_same s t l true same ∙ sym goes
   change_same s t same (event.Install kind root) is w v comes goes = absurd is
   change_same s t same (event.Inject source dest) is w v comes goes = absurd is
   change_same s t same (event.Learn e) is w v comes goes = absurd is
@@ -260,8 +270,8 @@ module _ (o p : Setting) (over : o.topology ≡ p.topology) where
   -- an install, which is refused by both or accepted by both
   up_same : (log other : List Entry) → AreAlike o p log other → topology_up o (sight_after o log) ≡ topology_up p (sight_after p other)
   up_same log other is =
-      ap (λ (boards : List Board). restrict (take (links_of o) (newest_of boards).up) o.topology) is.boards
-      ∙ ap (λ (net : Topology). restrict (take (length net.links) (newest_of (history.boards other)).up) net) over
+      ap (λ (boards : List Board). restrict (links_used (newest_of boards) (links_of o)) o.topology) is.boards
+      ∙ ap (λ (net : Topology). restrict (links_used (newest_of (history.boards other)) (length net.links)) net) over
 
   refused_same : (log other : List Entry) → AreAlike o p log other → (root : ℕ) → install_refusal o (sight_after o log) root ≡ install_refusal p (sight_after p other) root
   refused_same log other is root =
@@ -319,6 +329,8 @@ module _ (o p : Setting) (over : o.topology ≡ p.topology) where
   event_alike log other later next is (event.Retire f) w comes went t = taken log other later next w t.0 went t.2 (change_alike log other is (event.Retire f) tt w t.0 comes t.1)
   event_alike log other later next is (event.Down l) w comes went t = taken log other later next w t.0 went t.2 (change_alike log other is (event.Down l) tt w t.0 comes t.1)
   event_alike log other later next is (event.Up l) w comes went t = taken log other later next w t.0 went t.2 (change_alike log other is (event.Up l) tt w t.0 comes t.1)
+  event_alike log other later next is (event.Avoid l) w comes went t = taken log other later next w t.0 went t.2 (change_alike log other is (event.Avoid l) tt w t.0 comes t.1)
+  event_alike log other later next is (event.Heed l) w comes went t = taken log other later next w t.0 went t.2 (change_alike log other is (event.Heed l) tt w t.0 comes t.1)
   event_alike log other later next is (event.Inject source dest) w comes went stays =
       skipped log other later next is w (event_passed (sight_after o log) w (injects o (sight_after o log) source dest) (injects_passed o (sight_after o log) source dest) comes) went stays
   event_alike log other later next is (event.Learn e) w comes went stays =

@@ -19,8 +19,9 @@ use Rattle.ir_core.specs.declared.event.Step.TheVariants as step
 use Rattle.ir_core.specs.declared.event.Reply.{Reply}
 use Rattle.ir_core.specs.declared.event.Refused.{Refused}
 use Rattle.ir_core.specs.declared.event.Refused.TheVariants.{NoMemory, Disconnected}
-use Rattle.ir_core.specs.Board.{marked, retired_below}
-use Rattle.ir_core.specs.Refusals.{retire_refused, mark_refused}
+use Rattle.ir_core.specs.Marks.{both}
+use Rattle.ir_core.specs.Board.{links_used, marked, heeding, retired_below}
+use Rattle.ir_core.specs.Refusals.{retire_refused, mark_refused, heed_refused}
 use Rattle.ir_core.specs.Setting.{Setting, links_of}
 use Rattle.ir_core.specs.Opened.{IsOpenedWith}
 use Rattle.ir_core.specs.Entry.{Entry, DidChange}
@@ -52,6 +53,12 @@ change_plans o log (event.Down l) is wanted comes =
 change_plans o log (event.Up l) is wanted comes =
     let b = newest (sight_after o log) in
     ap (λ (w : Result Entry Refused). history.plans o (with_entry log w)) comes ∙ plans_kept o log (mark_refused (links_of o) b l true) (marked b l true)
+change_plans o log (event.Avoid l) is wanted comes =
+    let b = newest (sight_after o log) in
+    ap (λ (w : Result Entry Refused). history.plans o (with_entry log w)) comes ∙ plans_kept o log (heed_refused (links_of o) b l false) (heeding b l false)
+change_plans o log (event.Heed l) is wanted comes =
+    let b = newest (sight_after o log) in
+    ap (λ (w : Result Entry Refused). history.plans o (with_entry log w)) comes ∙ plans_kept o log (heed_refused (links_of o) b l true) (heeding b l true)
 change_plans o log (event.Install kind root) is wanted comes = absurd is
 change_plans o log (event.Inject source dest) is wanted comes = absurd is
 change_plans o log (event.Learn e) is wanted comes = absurd is
@@ -63,6 +70,8 @@ change_controlled : (o : Setting) (log later : List Entry) (e : Event) → IsPla
 change_controlled o log later (event.Retire f) is t = t
 change_controlled o log later (event.Down l) is t = t
 change_controlled o log later (event.Up l) is t = t
+change_controlled o log later (event.Avoid l) is t = t
+change_controlled o log later (event.Heed l) is t = t
 change_controlled o log later (event.Install kind root) is t = absurd is
 change_controlled o log later (event.Inject source dest) is t = absurd is
 change_controlled o log later (event.Learn e) is t = absurd is
@@ -100,27 +109,27 @@ module _ (s new : World) (kind : Kind) (root : ℕ) (reply : Result Reply Refuse
       by_answer log built later (inr a) shows = absurd (memory a.1)
 
   built_by : (log later : List Entry) (installs : List Install) (i : Install) (wanted : Result Entry Refused) (x : Option Refused) → is_ok (reply_to wanted) ≡ true → later ≡ with_entry log wanted →
-      InstallsUnless s.opening (sight_after s.opening log) kind root wanted x → ((t : Plan) → IsMade s.opening.labels kind root (restrict (take (links_of s.opening) (newest (sight_after s.opening log)).up) s.opening.topology) (Some t) → IsBuiltFrom s.opening i t) →
+      InstallsUnless s.opening (sight_after s.opening log) kind root wanted x → ((t : Plan) → IsMade s.opening.labels kind root (restrict (links_used (newest (sight_after s.opening log)) (links_of s.opening)) s.opening.topology) (Some t) → IsBuiltFrom s.opening i t) →
       AreBuiltFrom s.opening installs (history.plans s.opening log) → AreBuiltFrom s.opening (installs ++ i ∷ []) (history.plans s.opening later)
   built_by log later installs i (Err e) x did is comes from built = cc
   built_by log later installs i (Ok entry) (Some e) did is comes from built = absurd (not_accepted e entry (sym comes))
   built_by log later installs i (Ok entry) None did is comes from built = by_made comes.0 comes.1 comes.2
     where
-      by_made : (made : Option Plan) → IsMade s.opening.labels kind root (restrict (take (links_of s.opening) (newest (sight_after s.opening log)).up) s.opening.topology) made → Ok entry ≡ installs_made (sight_after s.opening log) made →
+      by_made : (made : Option Plan) → IsMade s.opening.labels kind root (restrict (links_used (newest (sight_after s.opening log)) (links_of s.opening)) s.opening.topology) made → Ok entry ≡ installs_made (sight_after s.opening log) made →
           AreBuiltFrom s.opening (installs ++ i ∷ []) (history.plans s.opening later)
       by_made None m e = absurd (not_accepted Disconnected entry (sym e))
       by_made (Some t) m e =
           let plans = ap (λ (x : List Entry). history.plans s.opening x) is ∙ ap (λ (x : Entry). history.plans s.opening (x ∷ log)) (same_entry entry _ e) in
           subst (λ (plans : List Plan). AreBuiltFrom s.opening (installs ++ i ∷ []) plans) (sym plans) (built_push s.opening installs (history.plans s.opening log) i t built (from t m))
 
-  pub install_accepted_so : is_ok reply ≡ true → (i : Install) → i.labels ≡ s.opening.labels → i.kind ≡ kind → i.root ≡ root → length i.up.items ≡ links_of s.opening → i.up.items ≡ take (links_of s.opening) (newest (sight_in s)).up → (installs : List Install) →
+  pub install_accepted_so : is_ok reply ≡ true → (i : Install) → i.labels ≡ s.opening.labels → i.kind ≡ kind → i.root ≡ root → length i.up.items ≡ links_of s.opening → i.up.items ≡ links_used (newest (sight_in s)) (links_of s.opening) → (installs : List Install) →
       ControlsOn s (step.Event (event.Install kind root)) installs new (installs ++ i ∷ [])
   install_accepted_so did i same_labels same_kind same_root marks is_up installs = (same, λ log k built. by_answer log k built (answers log k).0 (answers log k).1 (answers log k).2)
     where
       by_answer : (log : List Entry) → Shows log s → AreBuiltFrom s.opening installs (history.plans s.opening log) → (later : List Entry) → IsAnswered s.opening log (event.Install kind root) reply later → Shows later new →
           (x : List Entry) × IsControlled s.opening log (step.Event (event.Install kind root)) x × Shows x new × AreBuiltFrom s.opening (installs ++ i ∷ []) (history.plans s.opening x)
       by_answer log k built later (inl a) shows =
-          let here : i.up.items ≡ take (links_of s.opening) (newest (sight_after s.opening log)).up = is_up ∙ ap (λ (boards : List Board). take (links_of s.opening) (newest_of boards).up) k.boards in (
+          let here : i.up.items ≡ links_used (newest (sight_after s.opening log)) (links_of s.opening) = is_up ∙ ap (λ (boards : List Board). links_used (newest_of boards) (links_of s.opening)) k.boards in (
             later,
             (a.0, a.1, a.3),
             shows,
@@ -129,23 +138,26 @@ module _ (s new : World) (kind : Kind) (root : ℕ) (reply : Result Reply Refuse
           )
       by_answer log k built later (inr a) shows = absurd (memory a.1)
 
--- with all links up a network is as it was
-all_up : (n m l : ℕ) → l < n → n ≤ m → slice_index_or (take n (replicate m true)) l false ≡ true
+-- with all links up and heeded a network is as it was
+abbrev all_used : ℕ → ℕ → List Bool
+all_used n m = both (take n (replicate m true)) (take n (replicate m true))
+
+all_up : (n m l : ℕ) → l < n → n ≤ m → slice_index_or (all_used n m) l false ≡ true
 all_up zero m l lt le = absurd (omega arith)
 all_up (suc n) zero l lt le = absurd (omega arith)
 all_up (suc n) (suc m) zero lt le = refl
 all_up (suc n) (suc m) (suc l) lt le = all_up n m l (omega arith) (omega arith)
 
-restrict_all : (net : Topology) → IsTopology net → length net.links ≤ MAX_LINKS → restrict (take (length net.links) (replicate MAX_LINKS true)) net ≡ net
+restrict_all : (net : Topology) → IsTopology net → length net.links ≤ MAX_LINKS → restrict (all_used (length net.links) MAX_LINKS) net ≡ net
 restrict_all net ok few =
     ap (λ (ports : List (List Hop)). record { links = net.links; ports = ports })
-    (rows_all (is_up (take (length net.links) (replicate MAX_LINKS true))) net.ports (λ u k x e. (let port = ok.ports u k x e in all_up (length net.links) MAX_LINKS x.link (slice_get_within net.links x.link port.0 port.1) few)))
+    (rows_all (is_up (all_used (length net.links) MAX_LINKS)) net.ports (λ u k x e. (let port = ok.ports u k x e in all_up (length net.links) MAX_LINKS x.link (slice_get_within net.links x.link port.0 port.1) few)))
 
 -- the install of the first epoch
-pub first_built : (s : World) → IsWorld s → Shows [] s → (i : Install) → length i.up.items ≡ links_of s.opening → i.up.items ≡ take (links_of s.opening) (newest (sight_in s)).up →
+pub first_built : (s : World) → IsWorld s → Shows [] s → (i : Install) → length i.up.items ≡ links_of s.opening → i.up.items ≡ links_used (newest (sight_in s)) (links_of s.opening) →
     i.labels ≡ s.opening.labels → IsMade s.opening.labels i.kind i.root s.opening.topology (Some s.opening.first) → AreBuiltFrom s.opening (i ∷ []) (s.opening.first ∷ [])
 first_built s ok k i marks is_up same_labels made =
-    let here : i.up.items ≡ take (links_of s.opening) (replicate MAX_LINKS true) = is_up ∙ ap (λ (boards : List Board). take (links_of s.opening) (newest_of boards).up) k.boards in
+    let here : i.up.items ≡ all_used (links_of s.opening) MAX_LINKS = is_up ∙ ap (λ (boards : List Board). links_used (newest_of boards) (links_of s.opening)) k.boards in
     let whole = ap (λ (xs : List Bool). restrict xs s.opening.topology) here ∙ restrict_all s.opening.topology ok.opening.topology ok.opening.few_links in
     ((marks, subst (λ (n : LabelOrder). IsMade n i.kind i.root (restrict i.up.items s.opening.topology) (Some s.opening.first)) (sym same_labels) (subst (λ (net : Topology). IsMade s.opening.labels i.kind i.root net (Some s.opening.first)) (sym whole) made), same_labels), tt)
 

@@ -1,4 +1,4 @@
-use Rattle.std.proofs.Common.{◌≡◌, ℕ, ◌+◌, ◌<◌, List, [], ◌∷◌, ◌++◌, length, take, slice_index_or, Option, Some, None, refl, sym, ap, ◌∙◌, subst, arith, Bool, inl, inr}
+use Rattle.std.proofs.Common.{◌≡◌, ℕ, ◌+◌, ◌<◌, List, [], ◌∷◌, ◌++◌, length, slice_index_or, Option, Some, None, refl, sym, ap, ◌∙◌, subst, arith, Bool, inl, inr}
 use Rattle.std.specs.Prelude.{Ok, Err}
 use Rattle.ir_model.specs.declared.Kind.{Kind}
 use Rattle.ir_model.specs.Topology.{Topology, port_at, restrict}
@@ -9,7 +9,7 @@ use Rattle.ir_core.specs.declared.event.Reply.TheVariants.{Installed}
 use Rattle.ir_core.specs.declared.event.Refused.{Refused}
 use Rattle.ir_core.specs.declared.event.Refused.TheVariants.{Disconnected, NoMemory}
 use Rattle.ir_core.specs.Setting.{Setting, IsPlanFor, nodes_of, links_of, no_plan}
-use Rattle.ir_core.specs.Board.{installed}
+use Rattle.ir_core.specs.Board.{installed, links_used}
 use Rattle.ir_core.specs.Refusals.{install_refused}
 use Rattle.ir_core.specs.Entry.{Entry, DidInstall}
 use Rattle.ir_core.specs.Meaning.{newest_of, newest, topology_up, IsMade, InstallsUnless, Installs, install_refusal}
@@ -33,9 +33,9 @@ pub asked_here : (s : World) (nodes epochs : ℕ) (b : Board) (root : ℕ) (x : 
     install_refusal s.opening (sight_in s) root ≡ x
 asked_here s nodes epochs b root x n e is told = sym (told ∙ rw (n, e, is) refl)
 
--- the network over the links that are up in a board
+-- the network over the links that are up and heeded in a board
 abbrev pub up_in : Setting → Board → Topology
-up_in o b = restrict (take (links_of o) b.up) o.topology
+up_in o b = restrict (links_used b (links_of o)) o.topology
 
 -- an install over a disconnected network
 pub disconnected_here : (s now : World) → s ≡ now → (kind : Kind) (root : ℕ) (b : Board) → b ≡ newest_of s.boards → install_refusal s.opening (sight_in s) root ≡ None →
@@ -51,8 +51,8 @@ pub plan_refused_here : (s now : World) → s ≡ now → (kind : Kind) (root : 
     RefusesPlan (up_in s.opening b) (FromRoot labels root) e → IsInstallAnswer now now kind root (Err (refused_of e))
 plan_refused_here s now same kind root b is none within labels plan.Disconnected told = disconnected_here s now same kind root b is none told.2
 plan_refused_here s now same kind root b is none within labels plan.NoMemory told = subst (λ (x : World). IsInstallAnswer x x kind root (Err NoMemory)) same (inr (none, refl, refl))
-plan_refused_here s now same kind root b is none within labels plan.Empty told = absurd (let count = node_count-restrict (take (links_of s.opening) b.up) s.opening.topology in omega (arith, count, told, within))
-plan_refused_here s now same kind root b is none within labels plan.NoNode told = absurd (let count = node_count-restrict (take (links_of s.opening) b.up) s.opening.topology in omega (arith, count, told.1, within))
+plan_refused_here s now same kind root b is none within labels plan.Empty told = absurd (let count = node_count-restrict (links_used b (links_of s.opening)) s.opening.topology in omega (arith, count, told, within))
+plan_refused_here s now same kind root b is none within labels plan.NoNode told = absurd (let count = node_count-restrict (links_used b (links_of s.opening)) s.opening.topology in omega (arith, count, told.1, within))
 
 -- a plan that was made over the links that are up is a plan for the network
 pub made_plan : (o : Setting) (kind : Kind) (root : ℕ) (up : List Bool) (t : Plan) → IsMade o.labels kind root (restrict up o.topology) (Some t) → IsPlanFor o t

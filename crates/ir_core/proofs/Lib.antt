@@ -1,5 +1,6 @@
 pub mod Lists
 pub mod MarkWords
+pub mod Used
 pub mod Walks
 pub mod Lacking
 pub mod Channels
@@ -17,6 +18,7 @@ pub mod Theorem
 pub mod Plains
 pub mod Controls
 pub mod Alike
+pub mod Avoids
 pub mod Hops
 pub mod Opens
 pub mod Runs

@@ -5,8 +5,8 @@ use Rattle.std.proofs.lemmas.Grind.{common_steps}
 use Rattle.ir_core.specs.declared.TheConstants.{MAX_EPOCHS, MAX_CHANGES}
 use Rattle.ir_core.specs.declared.board.Board.{Board}
 use Rattle.ir_core.specs.declared.event.Refused.{Refused}
-use Rattle.ir_core.specs.declared.event.Refused.TheVariants.{NoNode, NoLink, NoEpoch, Same, EpochsFull, TooManyPackets, TooManyChanges}
-use Rattle.ir_core.specs.Refusals.{inject_refused, change_refused, retire_refused, mark_refused, install_refused}
+use Rattle.ir_core.specs.declared.event.Refused.TheVariants.{NoNode, NoLink, NoEpoch, LinkDown, Same, EpochsFull, TooManyPackets, TooManyChanges}
+use Rattle.ir_core.specs.Refusals.{inject_refused, change_refused, retire_refused, mark_refused, heed_refused, install_refused}
 
 pub none_there : (x : Option Refused) → ((e : Refused) → x ≡ Some e → ⊥) → x ≡ None
 none_there (Some e) never = absurd (never e refl)
@@ -36,6 +36,12 @@ mark_free links b l up e =
     let p = passed _ NoLink _ e in
     let within = p.0 in
     (grind (arith, common_steps), version_free b (passed _ Same _ p.1).1)
+
+pub heed_free : (links : ℕ) (b : Board) (l : ℕ) (heed : Bool) → heed_refused links b l heed ≡ None → (l < links) × (b.version < MAX_CHANGES)
+heed_free links b l heed e =
+    let p = passed _ NoLink _ e in
+    let within = p.0 in
+    (grind (arith, common_steps), version_free b (passed _ Same _ (passed _ LinkDown _ p.1).1).1)
 
 pub install_free : (nodes epochs : ℕ) (b : Board) (root : ℕ) → install_refused nodes epochs b root ≡ None → (root < nodes) × (epochs < MAX_EPOCHS) × (b.version < MAX_CHANGES)
 install_free nodes epochs b root e =

@@ -25,6 +25,7 @@ refusal_code refused.NoMemory = 13
 refusal_code refused.InboxFull = 14
 refusal_code refused.TooManyChanges = 15
 refusal_code refused.Used = 16
+refusal_code refused.LinkDown = 17
 
 -- of an install, of a retirement or a mark, and of an injection: 0 where none is refused so
 abbrev pub install_number : Refused → ℕ
@@ -42,6 +43,7 @@ change_number refused.NoLink = 1
 change_number refused.Same = 2
 change_number refused.NoMemory = 3
 change_number refused.TooManyChanges = 4
+change_number refused.LinkDown = 5
 change_number _ = 0
 
 abbrev pub inject_number : Refused → ℕ

@@ -33,6 +33,8 @@ IsControlled setting log (step.Event (event.Install kind root)) later = IsTaken 
 IsControlled setting log (step.Event (event.Retire f)) later = IsTaken setting log (event.Retire f) later
 IsControlled setting log (step.Event (event.Down l)) later = IsTaken setting log (event.Down l) later
 IsControlled setting log (step.Event (event.Up l)) later = IsTaken setting log (event.Up l) later
+IsControlled setting log (step.Event (event.Avoid l)) later = IsTaken setting log (event.Avoid l) later
+IsControlled setting log (step.Event (event.Heed l)) later = IsTaken setting log (event.Heed l) later
 IsControlled setting log (step.Event (event.Inject source dest)) later = later ≡ log
 IsControlled setting log (step.Event (event.Learn e)) later = later ≡ log
 IsControlled setting log (step.Event (event.Take u way)) later = later ≡ log
@@ -94,6 +96,8 @@ abbrev pub IsPlainChange : Event → Type 0
 IsPlainChange (event.Retire f) = Unit {0}
 IsPlainChange (event.Down l) = Unit {0}
 IsPlainChange (event.Up l) = Unit {0}
+IsPlainChange (event.Avoid l) = Unit {0}
+IsPlainChange (event.Heed l) = Unit {0}
 IsPlainChange (event.Install kind root) = ⊥
 IsPlainChange (event.Inject source dest) = ⊥
 IsPlainChange (event.Learn e) = ⊥

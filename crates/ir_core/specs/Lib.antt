@@ -18,6 +18,7 @@ pub mod World
 pub mod Shows
 pub mod Drain
 pub mod Run
+pub mod Avoided
 pub mod Quiet
 pub mod Inside
 pub mod Opened

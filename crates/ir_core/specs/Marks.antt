@@ -1,5 +1,5 @@
 -- Marks of links, 64 of them in a word.
-use Rattle.std.specs.Prelude.{◌≡◌, ◌≢◌, ℕ, ◌+◌, ◌*◌, ◌/◌, ◌%◌, ◌^◌, ◌-◌, ◌<◌, Bool, List, [], ◌∷◌, ◌++◌, length, map, replicate, take, drop, slice_index, if◌then◌else◌, ◌==◌}
+use Rattle.std.specs.Prelude.{◌≡◌, ◌≢◌, ℕ, ◌+◌, ◌*◌, ◌/◌, ◌%◌, ◌^◌, ◌-◌, ◌<◌, Bool, ◌&&◌, List, [], ◌∷◌, ◌++◌, length, map, replicate, take, drop, slice_index, if◌then◌else◌, ◌==◌}
 use Rattle.std.specs.Int.{bit_at}
 use Rattle.std.specs.List.{range_with_len}
 use Rattle.ir_core.specs.declared.marks.TheConstants.{WORD_LINKS, MARK_WORDS}
@@ -24,6 +24,12 @@ number_in (b ∷ bits) = (if b then 1 else 0) + 2 * number_in bits
 -- the words that hold these marks
 unfoldable pub words_in : List Bool → List ℕ
 words_in marks = map (λ j. number_in (take WORD_LINKS (drop (WORD_LINKS * j) marks))) (range_with_len 0 MARK_WORDS)
+
+-- place by place, whether both lists say so
+abbrev pub both : List Bool → List Bool → List Bool
+both [] ys = []
+both (x ∷ xs) [] = []
+both (x ∷ xs) (y ∷ ys) = (x && y) ∷ both xs ys
 
 -- a word of links that are all up
 abbrev pub word_up : ℕ

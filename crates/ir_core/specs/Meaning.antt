@@ -1,5 +1,5 @@
 -- What an event comes to, or its first refusal.
-use Rattle.std.specs.Prelude.{◌≡◌, ℕ, ◌+◌, ◌-◌, Bool, true, false, not, ◌||◌, nat_lt, nat_le, Option, Some, None, Result, Ok, Err, unwrap_or, is_some, List, ◌∷◌, length, take, slice_get, slice_index_or, if◌then◌else◌, ◌==◌}
+use Rattle.std.specs.Prelude.{◌≡◌, ℕ, ◌+◌, ◌-◌, Bool, true, false, not, ◌||◌, nat_lt, nat_le, Option, Some, None, Result, Ok, Err, unwrap_or, is_some, List, ◌∷◌, length, slice_get, slice_index_or, if◌then◌else◌, ◌==◌}
 use Rattle.ir_model.specs.declared.Hop.{Hop}
 use Rattle.ir_model.specs.declared.Kind.{Kind}
 use Rattle.ir_model.specs.Topology.{Topology, restrict}
@@ -18,8 +18,8 @@ use Rattle.ir_core.specs.declared.packet.Held.{Held}
 use Rattle.ir_core.specs.declared.event.Verdict.{Verdict}
 use Rattle.ir_core.specs.declared.event.Ruling.{Ruling}
 use Rattle.ir_core.specs.Record.{Record, hop_room, stamp_of}
-use Rattle.ir_core.specs.Board.{opening_board, marked, retired_below, installed}
-use Rattle.ir_core.specs.Refusals.{inject_refused, retire_refused, mark_refused, install_refused}
+use Rattle.ir_core.specs.Board.{opening_board, links_used, marked, heeding, retired_below, installed}
+use Rattle.ir_core.specs.Refusals.{inject_refused, retire_refused, mark_refused, heed_refused, install_refused}
 use Rattle.ir_core.specs.Setting.{Setting, nodes_of, links_of, channel_of, into}
 use Rattle.ir_core.specs.Entry.{Entry, DidInject, DidLearn, DidTake, DidRead, DidAct, DidChange, DidInstall, judged, restamp_by, fresh}
 use Rattle.ir_core.specs.History as history
@@ -135,9 +135,12 @@ retires s f = unless (retire_refused (newest s) f) (Ok (DidChange (retired_below
 abbrev pub marks : Setting → Sight → ℕ → Bool → Result Entry Refused
 marks setting s l up = unless (mark_refused (links_of setting) (newest s) l up) (Ok (DidChange (marked (newest s) l up)))
 
--- the network over the links that are up in the newest version
+abbrev pub heeds : Setting → Sight → ℕ → Bool → Result Entry Refused
+heeds setting s l heed = unless (heed_refused (links_of setting) (newest s) l heed) (Ok (DidChange (heeding (newest s) l heed)))
+
+-- the network over the links that are up and heeded in the newest version
 abbrev pub topology_up : Setting → Sight → Topology
-topology_up setting s = restrict (take (links_of setting) (newest s).up) setting.topology
+topology_up setting s = restrict (links_used (newest s) (links_of setting)) setting.topology
 
 -- a plan of this kind and root over the network, labelled in this order, or none where the network is disconnected
 abbrev pub IsMade : LabelOrder → Kind → ℕ → Topology → Option Plan → Type 0
@@ -165,7 +168,7 @@ abbrev pub Installs : Setting → Sight → Kind → ℕ → Result Entry Refuse
 Installs setting s kind root wanted = InstallsUnless setting s kind root wanted (install_refusal setting s root)
 
 -- What an event comes to: its entry, or its first refusal. Of an install it says which plan is made, and the plan
--- is any of that kind and root over the links that are up, labelled in the order of the setting.
+-- is any of that kind and root over the links that are up and heeded, labelled in the order of the setting.
 abbrev pub ComesTo : Setting → Sight → Event → Result Entry Refused → Type 0
 ComesTo setting s (event.Inject source dest) wanted = wanted ≡ injects setting s source dest
 ComesTo setting s (event.Learn e) wanted = wanted ≡ learns s e
@@ -176,6 +179,8 @@ ComesTo setting s (event.Install kind root) wanted = Installs setting s kind roo
 ComesTo setting s (event.Retire f) wanted = wanted ≡ retires s f
 ComesTo setting s (event.Down l) wanted = wanted ≡ marks setting s l false
 ComesTo setting s (event.Up l) wanted = wanted ≡ marks setting s l true
+ComesTo setting s (event.Avoid l) wanted = wanted ≡ heeds setting s l false
+ComesTo setting s (event.Heed l) wanted = wanted ≡ heeds setting s l true
 
 -- the history with one more event, if it is accepted
 abbrev pub with_entry : List Entry → Result Entry Refused → List Entry

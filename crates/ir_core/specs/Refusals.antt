@@ -3,8 +3,8 @@ use Rattle.std.specs.Prelude.{ℕ, Bool, not, ◌&&◌, nat_le, nat_lt, Option, 
 use Rattle.ir_core.specs.declared.TheConstants.{MAX_EPOCHS, MAX_CHANGES}
 use Rattle.ir_core.specs.declared.board.Board.{Board}
 use Rattle.ir_core.specs.declared.event.Refused.{Refused}
-use Rattle.ir_core.specs.declared.event.Refused.TheVariants.{NoNode, NoLink, NoEpoch, Same, EpochsFull, TooManyPackets, TooManyChanges}
-use Rattle.ir_core.specs.Board.{is_link_up}
+use Rattle.ir_core.specs.declared.event.Refused.TheVariants.{NoNode, NoLink, NoEpoch, LinkDown, Same, EpochsFull, TooManyPackets, TooManyChanges}
+use Rattle.ir_core.specs.Board.{is_link_up, is_heeded}
 
 -- a packet more, of so many nodes, of at most so many packets, so many of which there are
 abbrev pub inject_refused : (nodes most count source dest : ℕ) → Option Refused
@@ -29,6 +29,14 @@ abbrev pub mark_refused : (links : ℕ) → Board → (link : ℕ) → Bool → 
 mark_refused links b l up =
     if nat_le links l then Some NoLink
     else if (if up then is_link_up b l else not (is_link_up b l)) then Some Same
+    else change_refused b
+
+-- whether installs heed one of so many links, or avoid it
+abbrev pub heed_refused : (links : ℕ) → Board → (link : ℕ) → Bool → Option Refused
+heed_refused links b l heed =
+    if nat_le links l then Some NoLink
+    else if not heed && not (is_link_up b l) then Some LinkDown
+    else if (if heed then is_heeded b l else not (is_heeded b l)) then Some Same
     else change_refused b
 
 -- an install over so many nodes, where so many epochs are used up, before any plan is made

@@ -7,7 +7,7 @@ use Rattle.ir_core.specs.declared.event.Refused.{Refused}
 use Rattle.ir_core.specs.declared.event.Refused.TheVariants.{InboxFull, NoMemory}
 use Rattle.ir_core.specs.Setting.{Setting}
 use Rattle.ir_core.specs.Entry.{Entry, reply_of}
-use Rattle.ir_core.specs.Meaning.{Sight, sight_after, ComesTo, with_entry, injects, retires, marks, install_refusal}
+use Rattle.ir_core.specs.Meaning.{Sight, sight_after, ComesTo, with_entry, injects, retires, marks, heeds, install_refusal}
 use Rattle.ir_core.specs.History as history
 use Rattle.ir_core.specs.World.{World}
 
@@ -41,6 +41,8 @@ MayWantMemory setting s (event.Install kind root) = install_refusal setting s ro
 MayWantMemory setting s (event.Retire f) = AsksForMemory (retires s f)
 MayWantMemory setting s (event.Down l) = AsksForMemory (marks setting s l false)
 MayWantMemory setting s (event.Up l) = AsksForMemory (marks setting s l true)
+MayWantMemory setting s (event.Avoid l) = AsksForMemory (heeds setting s l false)
+MayWantMemory setting s (event.Heed l) = AsksForMemory (heeds setting s l true)
 MayWantMemory setting s (event.Learn e) = ⊥
 MayWantMemory setting s (event.Take u way) = ⊥
 MayWantMemory setting s (event.Read u k) = ⊥

@@ -1,7 +1,7 @@
 ghost use Rattle.std.specs.Prelude.{◌≡◌, ◌<◌, ◌≤◌, IfOk, length, take};
 ghost use Rattle.ir_core.specs.declared.TheConstants.{MAX_LINKS, MAX_CHANGES};
-ghost use Rattle.ir_core.specs.Board.{opening_board, is_link_up, marked, retired_below, installed};
-ghost use Rattle.ir_core.specs.Refusals.{change_refused, retire_refused, mark_refused, install_refused};
+ghost use Rattle.ir_core.specs.Board.{opening_board, is_link_up, is_heeded, links_used, marked, heeding, retired_below, installed};
+ghost use Rattle.ir_core.specs.Refusals.{change_refused, retire_refused, mark_refused, heed_refused, install_refused};
 ghost use Rattle.ir_core.specs.{declared.board.Board.Board, Kept.{kept_board, IsKeptBoard}};
 
 use crate::event::Refused;
@@ -10,17 +10,19 @@ use crate::{MAX_CHANGES, MAX_EPOCHS};
 use std::alloc::{AllocError, Global};
 use std::marker::Model;
 
-/// The published board of one version: which epochs are live, and which links are up.
+/// The published board of one version: which epochs are live, which links are up, and which of them
+/// installs heed.
 #[derive(Clone, Copy, Debug, PartialEq, Eq)]
 pub struct Board {
     version: u32,
     current: u32,
     floor: u32,
     up: Marks,
+    heeded: Marks,
 }
 
 impl Board {
-    /// The board before any change: version 0, epoch 1 current and live, all links up.
+    /// The board before any change: version 0, epoch 1 current and live, all links up and heeded.
     pub fn opening() -> Board
         ensures { result ≡ opening_board }
     {
@@ -29,6 +31,7 @@ impl Board {
             current: 1,
             floor: 1,
             up: Marks::all_up(),
+            heeded: Marks::all_up(),
         }
     }
 
@@ -60,6 +63,13 @@ impl Board {
         self.up.is_up(link as usize)
     }
 
+    /// Whether installs heed a link; true where the number is no link.
+    pub fn is_heeded(&self, link: u16) -> bool
+        ensures { result ≡ is_heeded self.now link }
+    {
+        self.heeded.is_up(link as usize)
+    }
+
     /// A mark for each of the first links, up or down. Takes O(l), for l links.
     pub fn marks(&self, alloc: Global, links: usize) -> Result<Vec<bool>, AllocError>
         requires { links ≤ MAX_LINKS }
@@ -67,6 +77,16 @@ impl Board {
         ensures count { IfOk result (λ v. length v.items ≡ links) }
     {
         self.up.first(alloc, links)
+    }
+
+    /// For each of the first links whether an install uses it: it is up and heeded. Takes O(l), for
+    /// l links.
+    pub fn used(&self, alloc: Global, links: usize) -> Result<Vec<bool>, AllocError>
+        requires { links ≤ MAX_LINKS }
+        ensures marks { IfOk result (λ v. v.items ≡ links_used self.now links) }
+        ensures count { IfOk result (λ v. length v.items ≡ links) }
+    {
+        self.up.first_of_both(&self.heeded, alloc, links)
     }
 
     /// The next board, with one link marked up or down.
@@ -78,6 +98,18 @@ impl Board {
         let mut next = *self;
         next.version += 1;
         next.up.mark(link as usize, up);
+        next
+    }
+
+    /// The next board, whose installs heed one link or avoid it. Packets may go by it all the same.
+    pub fn heeding(&self, link: u16, heed: bool) -> Board
+        requires link_in { link < MAX_LINKS }
+        requires room { self.now.version < MAX_CHANGES }
+        ensures { result ≡ heeding self.now link heed }
+    {
+        let mut next = *self;
+        next.version += 1;
+        next.heeded.mark(link as usize, heed);
         next
     }
 
@@ -131,6 +163,24 @@ impl Board {
         self.change_refusal()
     }
 
+    /// Why installs do not heed one of so many links, or do not avoid it: the number is no link, one to
+    /// avoid is down (`LinkDown`), the link is heeded or avoided already (`Same`), or the change is
+    /// one too many, in this order.
+    pub fn heed_refusal(&self, links: usize, link: u16, heed: bool) -> Option<Refused>
+        ensures { result ≡ heed_refused links self.now link heed }
+    {
+        if link as usize >= links {
+            return Some(Refused::NoLink);
+        }
+        if !heed && !self.is_up(link) {
+            return Some(Refused::LinkDown);
+        }
+        if self.is_heeded(link) == heed {
+            return Some(Refused::Same);
+        }
+        self.change_refusal()
+    }
+
     /// Why an install over so many nodes, where so many epochs are used up, is refused before any
     /// plan is made. The reasons are, in this order: the root is no node, no epoch is left, the
     /// change is one too many.
@@ -156,13 +206,15 @@ impl Board {
     }
 }
 
-/// A board as a world keeps it: its marks take words up to the last link that is down, and no more.
+/// A board as a world keeps it: its marks take words up to the last link that is down, and no more,
+/// and so up to the last one that is avoided.
 #[derive(Drop)]
 pub struct KeptBoard {
     version: u32,
     epoch: u32,
     floor: u32,
     words: Vec<u64>,
+    heeded: Vec<u64>,
 }
 
 impl Model for KeptBoard {
@@ -179,11 +231,13 @@ impl KeptBoard {
         ensures { IfOk result (λ kept. kept ≡ board.now) }
     {
         let words = board.up.to_words(alloc)?;
+        let heeded = board.heeded.to_words(alloc)?;
         Ok(KeptBoard {
             version: board.version,
             epoch: board.current,
             floor: board.floor,
             words,
+            heeded,
         })
     }
 
@@ -196,6 +250,7 @@ impl KeptBoard {
             current: self.epoch,
             floor: self.floor,
             up: Marks::from_words(self.words.as_slice()),
+            heeded: Marks::from_words(self.heeded.as_slice()),
         }
     }
 

@@ -14,7 +14,7 @@ use ir_plan::{Alone, Crew, LabelOrder, Plan};
 use std::alloc::Global;
 
 /// What an epoch's plan was built from: the order in which it is labelled, its kind and root, and for each link of the
-/// network whether it was up.
+/// network whether it was used: it was up and heeded.
 #[derive(Drop)]
 pub struct Install {
     pub labels: LabelOrder,
@@ -118,7 +118,7 @@ fn first_install(
     ensures refused { IfErr result (λ e. e ≡ OpenError.NoMemory) }
 {
     world.invariant();
-    let Ok(up) = world.marks(alloc) else {
+    let Ok(up) = world.used(alloc) else {
         return Err(OpenError::NoMemory);
     };
     let Ok(mut built) = Vec::with_capacity(alloc, 1) else {
@@ -167,6 +167,8 @@ fn control_event(
         Event::Retire(floor) => change(crew, world, Event::Retire(floor)),
         Event::Down(link) => change(crew, world, Event::Down(link)),
         Event::Up(link) => change(crew, world, Event::Up(link)),
+        Event::Avoid(link) => change(crew, world, Event::Avoid(link)),
+        Event::Heed(link) => change(crew, world, Event::Heed(link)),
         Event::Inject(_, _)
         | Event::Learn(_)
         | Event::Take(_, _)
@@ -188,7 +190,7 @@ fn change(crew: &impl Crew, world: &mut World, event: Event) -> Result<(), OpenE
     }
 }
 
-/// An install, with the links that are up before it.
+/// An install, with the links that are used before it.
 fn install_next(
     crew: &impl Crew,
     alloc: Global,
@@ -200,7 +202,7 @@ fn install_next(
     ensures { IfOk result (λ _. ControlsOn world.old
         (step.Event (event.Install kind root)) built.old.items world.new built.new.items) }
 {
-    let Ok(up) = world.marks(alloc) else {
+    let Ok(up) = world.used(alloc) else {
         return Err(OpenError::NoMemory);
     };
     let labels = world.labels();

@@ -6,7 +6,7 @@ use ir_model::Kind;
 pub enum Command {
     /// Puts a packet from a source to a destination into the source's inbox.
     Inject(u16, u16),
-    /// Installs a plan of this kind and root over the links that are up.
+    /// Installs a plan of this kind and root over the links that are up and heeded.
     Install(Kind, u16),
     /// Retires the epochs below this one.
     Retire(u32),
@@ -14,6 +14,10 @@ pub enum Command {
     Down(u16),
     /// Marks a link as up.
     Up(u16),
+    /// Leaves a link out of later installs; it still carries packets.
+    Avoid(u16),
+    /// Lets later installs use a link again.
+    Heed(u16),
     /// Looks until all packets are settled or a node has ended. It is never refused.
     Drain,
 }

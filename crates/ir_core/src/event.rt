@@ -27,7 +27,7 @@ pub enum Event {
     Read(u16, usize),
     /// A node acts on the packet in its hand.
     Act(u16),
-    /// A plan of a kind and root over the links that are up becomes the current epoch.
+    /// A plan of a kind and root over the links that are up and heeded becomes the current epoch.
     Install(Kind, u16),
     /// The epochs below this one are retired.
     Retire(u32),
@@ -35,6 +35,10 @@ pub enum Event {
     Down(u16),
     /// A link comes up.
     Up(u16),
+    /// Later installs leave a link out, which still carries packets.
+    Avoid(u16),
+    /// Later installs use a link again.
+    Heed(u16),
 }
 
 /// One step of a run.
@@ -82,6 +86,8 @@ pub enum Refused {
     TooManyChanges = 15,
     /// From a live run alone: a fresh cell of the registry refused its plan.
     Used = 16,
+    /// A link that is to be avoided is down.
+    LinkDown = 17,
 }
 
 impl Refused {
@@ -108,7 +114,7 @@ impl Refused {
         }
     }
 
-    /// Its number of those that a retirement or a mark of a link may be refused by, from 1 to 4,
+    /// Its number of those that a retirement or a mark of a link may be refused by, from 1 to 5,
     /// and 0 where none is refused so. For users of the library.
     pub fn change_number(self) -> u8
         ensures { result ≡ change_number self }
@@ -118,6 +124,7 @@ impl Refused {
             Refused::Same => 2,
             Refused::NoMemory => 3,
             Refused::TooManyChanges => 4,
+            Refused::LinkDown => 5,
             _ => 0,
         }
     }

@@ -5,7 +5,7 @@ ghost use Rattle.ir_core.specs.{declared.board.Board.Board, Entry.{Entry, ruled,
 ghost use Rattle.ir_core.specs.{Plain.{IsPlainVerdict, IsPlainAct}, declared.opening.Opening.Opening};
 ghost use Rattle.ir_core.specs.{declared.built.Install.Install, declared.event.Refused.Refused};
 ghost use Rattle.ir_core.specs.{declared.event.Reply.Reply, declared.event.Step.Step, World.World};
-ghost use Rattle.ir_core.specs.Installed.{AreEpochsOf};
+ghost use Rattle.ir_core.specs.{Installed.AreEpochsOf, Avoided.{IsSoInRuns, AreDropsForUsedLinks, AreNoDropsForAvoided}};
 ghost use Rattle.ir_core.specs.Lacking.{IsFrontOfTheWalk, IsSentOver, IsWayOver, LackNone};
 ghost use Rattle.ir_core.specs.{declared.packet.Fate.TheVariants.Left, Sound.IsSound};
 ghost use Rattle.ir_core.specs.Meaning.{AreBothMade};
@@ -33,6 +33,15 @@ pub fn without_restamps()
 pub fn epochs_of_installs()
     ensures { (opening : Opening) (steps : List Step) (replies : List (Result Reply Refused)) (world : World)
         (installs : List Install) → AreEpochsOf opening steps replies world installs }
+{}
+
+/// A law of runs: a packet is dropped for a link that is down only by a plan that was made while the
+/// link was up and heeded, the plan of its present epoch. So epochs that are installed while a link
+/// is avoided drop no packet for it. Where no packet has an epoch from before the `Avoid` when the
+/// link goes down, and the injector stamps with none, none is dropped for it.
+pub fn drops_for_used_links()
+    ensures used { IsSoInRuns AreDropsForUsedLinks }
+    ensures avoided { IsSoInRuns AreNoDropsForAvoided }
 {}
 
 /// A law of plans: two plans of one kind and root over one network, labelled in one order, have the

@@ -26,7 +26,8 @@ pub use command::Command;
 pub use event::{Action, Event, OpenError, Refused, Reply, Ruling, Step, Verdict, Way};
 pub use ir_model::{Hop, Kind};
 pub use laws::{
-    epochs_of_installs, made_plan_is_determined, ways_over_lacking_rows, without_restamps,
+    drops_for_used_links, epochs_of_installs, made_plan_is_determined, ways_over_lacking_rows,
+    without_restamps,
 };
 pub use opening::{Opening, open_refusal};
 pub use packet::{Fate, Held, Record, Restamp, hop_room};

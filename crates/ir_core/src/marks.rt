@@ -1,6 +1,6 @@
-ghost use Rattle.std.specs.Prelude.{◌≡◌, ◌-◌, ◌<◌, ◌≤◌, true, get_or, length, replicate, slice_set, drop, take, IfOk, List, Bool};
+ghost use Rattle.std.specs.Prelude.{◌≡◌, ◌-◌, ◌<◌, ◌≤◌, ◌&&◌, true, get_or, length, replicate, slice_set, drop, take, IfOk, List, Bool};
 ghost use Rattle.ir_core.specs.{declared.TheConstants.MAX_LINKS, Marks.{EndsDown, marks_in, word_up, with_rest_up}};
-ghost use Rattle.ir_core.specs.{Marks.{words_in, AreWords}, MarkLaws.{words_in-marks_in}};
+ghost use Rattle.ir_core.specs.{Marks.{words_in, both, AreWords}, MarkLaws.{words_in-marks_in}};
 
 use crate::MAX_LINKS;
 use std::alloc::{AllocError, Global};
@@ -12,7 +12,8 @@ pub const WORD_LINKS: usize = 64;
 /// How many words mark all links.
 pub const MARK_WORDS: usize = MAX_LINKS / WORD_LINKS;
 
-/// A mark for each link number, up or down, in words of 64.
+/// A mark for each link number, up or down, in words of 64. Of the links that are heeded, one that
+/// is avoided is marked down.
 #[derive(Clone, Copy, Debug, PartialEq, Eq)]
 pub struct Marks {
     words: [u64; MARK_WORDS],
@@ -82,6 +83,26 @@ impl Marks {
         Ok(marks)
     }
 
+    /// The marks of the first links that are up here and in others, as a list.
+    pub fn first_of_both(
+        &self,
+        other: &Marks,
+        alloc: Global,
+        links: usize,
+    ) -> Result<Vec<bool>, AllocError>
+        requires { links ≤ MAX_LINKS }
+        ensures marks { IfOk result (λ v. v.items ≡ both (take links self.now) (take links other.now)) }
+        ensures count { IfOk result (λ v. length v.items ≡ links) }
+    {
+        self.invariant();
+        other.invariant();
+        let mut marks = Vec::with_capacity(alloc, links)?;
+        for link in 0..links {
+            marks.push(each(self.is_up(link), other.is_up(link)))?;
+        }
+        Ok(marks)
+    }
+
     /// The words up to the last one with a link that is down.
     pub fn to_words(&self, alloc: Global) -> Result<Vec<u64>, AllocError>
         ensures marks { IfOk result (λ v. marks_in (with_rest_up v.items) ≡ self.now) }
@@ -101,6 +122,13 @@ impl Marks {
         all[..words.len()].copy_from_slice(words);
         Marks { words: all }
     }
+}
+
+/// Whether each of the two is true.
+fn each(a: bool, b: bool) -> bool
+    ensures { result ≡ a && b }
+{
+    a && b
 }
 
 /// How many words there are up to the last one with a link that is down.

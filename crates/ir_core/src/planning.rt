@@ -1,8 +1,8 @@
 //! Plans of a network within the limits.
-ghost use Rattle.std.specs.Prelude.{◌<◌, ◌≤◌, length, IfOk, IfErr, take};
+ghost use Rattle.std.specs.Prelude.{◌<◌, ◌≤◌, length, IfOk, IfErr};
 ghost use Rattle.ir_model.specs.Topology.{node_count, restrict};
 ghost use Rattle.ir_plan.specs.Building.{FromRoot, IsPlanBy, RefusesPlan};
-ghost use Rattle.ir_core.specs.declared.TheConstants.{MAX_LINKS};
+ghost use Rattle.ir_core.specs.{declared.TheConstants.{MAX_LINKS}, Board.links_used};
 
 use crate::MAX_LINKS;
 use crate::board::Board;
@@ -57,7 +57,7 @@ fn made_by(
     }
 }
 
-/// The plan that is wanted over the links that are up in a board. Takes as long as `plan_over_by`.
+/// The plan that is wanted over the links that are up and heeded in a board. Takes as long as `plan_over_by`.
 pub fn plan_up_by(
     crew: &impl Crew,
     alloc: Global,
@@ -67,13 +67,13 @@ pub fn plan_up_by(
 ) -> Result<Plan, PlanError>
     requires root { draft.root < node_count topology.now }
     requires links { length topology.now.links ≤ MAX_LINKS }
-    ensures made { IfOk result (IsPlanBy (restrict (take (length topology.now.links) board.now.up) topology.now)
+    ensures made { IfOk result (IsPlanBy (restrict (links_used board.now (length topology.now.links)) topology.now)
         draft.kind (FromRoot draft.labels draft.root)) }
     ensures refused { IfErr result (RefusesPlan
-        (restrict (take (length topology.now.links) board.now.up) topology.now)
+        (restrict (links_used board.now (length topology.now.links)) topology.now)
         (FromRoot draft.labels draft.root)) }
 {
-    let up = board.marks(alloc, topology.links())?;
-    let over = topology.only(alloc, up.as_slice())?;
+    let used = board.used(alloc, topology.links())?;
+    let over = topology.only(alloc, used.as_slice())?;
     plan_over_by(crew, alloc, over, draft)
 }

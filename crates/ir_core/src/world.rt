@@ -1,14 +1,14 @@
-ghost use Rattle.std.specs.Prelude.{◌≡◌, ℕ, ◌+◌, ◌-◌, ◌<◌, ◌≤◌, List, [], length, map, All, replicate, IfOk, IfErr, take, ◌++◌, ◌∷◌, slice_get, slice_index, slice_index_or, unwrap_or, option_copied, Some, None};
+ghost use Rattle.std.specs.Prelude.{◌≡◌, ℕ, ◌+◌, ◌-◌, ◌<◌, ◌≤◌, List, [], length, map, All, replicate, IfOk, IfErr, ◌++◌, ◌∷◌, slice_get, slice_index, slice_index_or, unwrap_or, option_copied, Some, None};
 ghost use Rattle.ir_model.specs.Topology.{ports_of};
 ghost use Rattle.ir_core.specs.declared.TheConstants.{MAX_LINKS, MAX_CHANGES};
 ghost use Rattle.ir_core.specs.World.{World, IsWorld, IsBoard, sight_in, IsAnswer, open_verdict_on, LeadsIn};
 ghost use Rattle.ir_core.specs.{Inside.{world_of, IsWorldKept}, Setting.{IsSetting, nodes_of, links_of}};
 ghost use Rattle.ir_core.specs.Opened.{IsOpenedWith, IsOpenRefusal, opening_of, setting_of};
-ghost use Rattle.ir_core.specs.Meaning.{newest, learns, reads, takes, acts, retires, marks, injects, verdict_on, ruling_on, record_at, board_at, is_full_towards, plan_of};
+ghost use Rattle.ir_core.specs.Meaning.{newest, learns, reads, takes, acts, retires, marks, heeds, injects, verdict_on, ruling_on, record_at, board_at, is_full_towards, plan_of};
 ghost use Rattle.ir_core.specs.{Record.stamp_of, Entry.Entry, History.boards, Shows.{Shows, AnswersAfter}};
 ghost use Rattle.ir_core.specs.{Run.StepsAfter, Sound.AllSound, Handled.{IsAnswerOr, IsAnswerTo, IsInstallAnswer}};
 ghost use Rattle.ir_core.specs.{declared.event.Way.TheVariants.{Link as WayLink}, Opened.open_refused};
-ghost use Rattle.ir_core.specs.{Setting.{channel_in, channel_of}, Queue.{ids_of, room_of}, Board.opening_board};
+ghost use Rattle.ir_core.specs.{Setting.{channel_in, channel_of}, Queue.{ids_of, room_of}, Board.{opening_board, links_used}};
 
 use crate::board::{Board, KeptBoard};
 use crate::event::{Event, OpenError, Refused, Reply, Ruling, Step, Verdict, Way};
@@ -226,7 +226,7 @@ impl World {
         Ok(Reply::Taken(id))
     }
 
-    /// A plan over the links that are up becomes the current epoch. It is made, and all memory is
+    /// A plan over the links that are up and heeded becomes the current epoch. It is made, and all memory is
     /// taken, before anything changes.
     fn install(&mut self, crew: &impl Crew, kind: Kind, root: u16) -> Result<Reply, Refused>
         ensures { IsInstallAnswer self.old self.new kind root result }
@@ -270,6 +270,20 @@ impl World {
             return Err(error);
         }
         let Ok(()) = keep(self.alloc, &mut self.boards, &newest.marked(link, up)) else {
+            return Err(Refused::NoMemory);
+        };
+        Ok(Reply::Changed)
+    }
+
+    /// Installs heed a link from the next version of the board on, or avoid it.
+    fn heed(&mut self, link: u16, heed: bool) -> Result<Reply, Refused>
+        ensures { IsAnswerOr (heeds self.old.opening (sight_in self.old) link heed) self.old self.new result }
+    {
+        let newest = self.newest();
+        if let Some(error) = newest.heed_refusal(self.topology.links(), link, heed) {
+            return Err(error);
+        }
+        let Ok(()) = keep(self.alloc, &mut self.boards, &newest.heeding(link, heed)) else {
             return Err(Refused::NoMemory);
         };
         Ok(Reply::Changed)
@@ -430,8 +444,8 @@ impl World {
     }
 
     /// One event. The reply is that of the event's meaning after the history, or its first refusal;
-    /// a refused event changes nothing. Want of memory is answered at Inject, Install, Retire, Down
-    /// and Up alone. The plan of an install is made on the thread that calls. Act takes O(log k),
+    /// a refused event changes nothing. Want of memory is answered at Inject, Install, Retire, Down,
+    /// Up, Avoid and Heed alone. The plan of an install is made on the thread that calls. Act takes O(log k),
     /// for k starts of a row, Install as long as `plan_up_by`, and each other event constant time.
     /// For users of the library.
     pub fn apply(&mut self, event: Event) -> Result<Reply, Refused>
@@ -484,6 +498,8 @@ impl World {
             Event::Retire(floor) => self.retire(floor),
             Event::Down(link) => self.mark(link, false),
             Event::Up(link) => self.mark(link, true),
+            Event::Avoid(link) => self.heed(link, false),
+            Event::Heed(link) => self.heed(link, true),
         }
     }
 
@@ -525,13 +541,13 @@ impl World {
         self.labels
     }
 
-    /// A mark for each link of the network, up or down, in the newest board.
-    pub(crate) fn marks(&self, alloc: Global) -> Result<Vec<bool>, AllocError>
-        ensures marks { IfOk result (λ v. v.items ≡ take (links_of self.now.opening)
-            (newest (sight_in self.now)).up) }
+    /// For each link of the network whether an install uses it, by the newest board.
+    pub(crate) fn used(&self, alloc: Global) -> Result<Vec<bool>, AllocError>
+        ensures marks { IfOk result (λ v. v.items ≡ links_used (newest (sight_in self.now))
+            (links_of self.now.opening)) }
         ensures count { IfOk result (λ v. length v.items ≡ links_of self.now.opening) }
     {
-        self.newest().marks(alloc, self.topology.links())
+        self.newest().used(alloc, self.topology.links())
     }
 
     /// Does nothing; a caller's proof learns by it what holds of each world.

@@ -8,7 +8,7 @@ use Rattle.ir_core.specs.declared.board.Board.{Board}
 use Rattle.ir_core.specs.Board.{opening_board}
 use Rattle.ir_epochs.specs.declared.registry.Stamp.{Stamp}
 use Rattle.ir_epochs.specs.declared.entry.Change.{Change}
-use Rattle.ir_epochs.specs.declared.entry.Change.TheVariants.{Install, Retire, Down, Up}
+use Rattle.ir_epochs.specs.declared.entry.Change.TheVariants.{Install, Retire, Down, Up, Avoid, Heed}
 use Rattle.ir_epochs.specs.declared.entry.Entry.{Entry}
 use Rattle.ir_epochs.specs.declared.entry.Entry.TheVariants.{Opened, Changed}
 use Rattle.ir_epochs.specs.Stamps.{knows, registry_name}
@@ -33,6 +33,8 @@ stamp_last xs c s is = stamp_from None xs c ∙ ap (λ (o : Option Stamp). stamp
     some_after (Retire f) = refl
     some_after (Down l) = refl
     some_after (Up l) = refl
+    some_after (Avoid l) = refl
+    some_after (Heed l) = refl
 
 -- what the last change installed is the stamp that is then current
 pub installed_last : (xs : List Entry) (c : Change) (s : Stamp) → installed_by (xs ++ Changed c ∷ []) ≡ (if installs c then Some (stamp_after s c) else None)
@@ -43,6 +45,8 @@ installed_last xs c s = installed_from None xs c ∙ by_case c
     by_case (Retire f) = refl
     by_case (Down l) = refl
     by_case (Up l) = refl
+    by_case (Avoid l) = refl
+    by_case (Heed l) = refl
 
 -- what the opening fixed stays
 opening_more : (xs rest : List Entry) → 0 < length xs → IsSameOpening xs (xs ++ rest)
@@ -62,18 +66,24 @@ module _ (xs : List Entry) (s : Stamp) (is : IsCurrent xs s) where
   epoch_after (Retire f) = is.epoch
   epoch_after (Down l) = is.epoch
   epoch_after (Up l) = is.epoch
+  epoch_after (Avoid l) = is.epoch
+  epoch_after (Heed l) = is.epoch
 
   registry_after : (c : Change) → MayComeNext xs c → registry_name (stamp_after s c) ≡ registry_of xs
   registry_after (Install t) fits = fits.1
   registry_after (Retire f) fits = is.registry
   registry_after (Down l) fits = is.registry
   registry_after (Up l) fits = is.registry
+  registry_after (Avoid l) fits = is.registry
+  registry_after (Heed l) fits = is.registry
 
   over_after : (c : Change) → MayComeNext xs c → IsOver (topology_of xs) (knows (stamp_after s c)).topology
   over_after (Install t) fits = fits.2
   over_after (Retire f) fits = is.over
   over_after (Down l) fits = is.over
   over_after (Up l) fits = is.over
+  over_after (Avoid l) fits = is.over
+  over_after (Heed l) fits = is.over
 
   current_more : (c : Change) → 0 < length xs → MayComeNext xs c → IsCurrent (xs ++ Changed c ∷ []) (stamp_after s c)
   current_more c some fits = let opening = opening_more xs (Changed c ∷ []) some in record {
@@ -98,6 +108,8 @@ version_after b (Install s) = refl
 version_after b (Retire f) = refl
 version_after b (Down l) = refl
 version_after b (Up l) = refl
+version_after b (Avoid l) = refl
+version_after b (Heed l) = refl
 
 live_after : (xs : List Entry) (b : Board) (c : Change) → b ≡ board_of xs → HasLiveEpochs b → MayComeNext xs c → HasLiveEpochs (changed b c)
 live_after xs b (Install s) is live fits =
@@ -112,6 +124,8 @@ live_after xs b (Retire f) is live fits =
     (omega (arith, live.0), omega arith, live.2)
 live_after xs b (Down l) is live fits = live
 live_after xs b (Up l) is live fits = live
+live_after xs b (Avoid l) is live fits = live
+live_after xs b (Heed l) is live fits = live
 
 pub made_more : (xs : List Entry) (b : Board) (s : Stamp) (c : Change) → IsMadeOf xs b s → MayComeNext xs c → IsMadeOf (xs ++ Changed c ∷ []) (changed b c) (stamp_after s c)
 made_more xs b s c is fits =

@@ -5,7 +5,7 @@ use Rattle.ir_core.specs.declared.board.Board.{Board}
 use Rattle.ir_core.specs.Board.{opening_board}
 use Rattle.ir_epochs.specs.declared.registry.Stamp.{Stamp}
 use Rattle.ir_epochs.specs.declared.entry.Change.{Change}
-use Rattle.ir_epochs.specs.declared.entry.Change.TheVariants.{Install, Retire, Down, Up}
+use Rattle.ir_epochs.specs.declared.entry.Change.TheVariants.{Install, Retire, Down, Up, Avoid, Heed}
 use Rattle.ir_epochs.specs.declared.entry.Entry.{Entry}
 use Rattle.ir_epochs.specs.declared.entry.Entry.TheVariants.{Opened, Changed}
 use Rattle.ir_epochs.specs.Entries.{board_of, entered, changed, MayComeNext, Rises, IsRising}
@@ -33,6 +33,8 @@ later_step xs (Install s) f = let lt : (board_of xs).current < s.epoch = f.0 in 
 later_step xs (Retire g) f = let lt : (board_of xs).floor < g = f.0 in (omega arith, le_refl (board_of xs).current)
 later_step xs (Down l) f = (le_refl (board_of xs).floor, le_refl (board_of xs).current)
 later_step xs (Up l) f = (le_refl (board_of xs).floor, le_refl (board_of xs).current)
+later_step xs (Avoid l) f = (le_refl (board_of xs).floor, le_refl (board_of xs).current)
+later_step xs (Heed l) f = (le_refl (board_of xs).floor, le_refl (board_of xs).current)
 
 pub rising_opened : (links : ℕ) (s : Stamp) → IsRising (Opened links s ∷ [])
 rising_opened links s zero = (le_refl 1, le_refl 1)

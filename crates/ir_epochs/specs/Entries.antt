@@ -3,10 +3,10 @@ use Rattle.std.specs.Prelude.{◌≡◌, ℕ, ◌+◌, ◌<◌, ◌≤◌, Bool,
 use Rattle.ir_model.specs.Topology.{Topology}
 use Rattle.ir_core.specs.declared.TheConstants.{MAX_LINKS, MAX_EPOCHS}
 use Rattle.ir_core.specs.declared.board.Board.{Board}
-use Rattle.ir_core.specs.Board.{opening_board, is_link_up, marked, retired_below, installed}
+use Rattle.ir_core.specs.Board.{opening_board, is_link_up, is_heeded, marked, heeding, retired_below, installed}
 use Rattle.ir_epochs.specs.declared.registry.Stamp.{Stamp}
 use Rattle.ir_epochs.specs.declared.entry.Change.{Change}
-use Rattle.ir_epochs.specs.declared.entry.Change.TheVariants.{Install, Retire, Down, Up}
+use Rattle.ir_epochs.specs.declared.entry.Change.TheVariants.{Install, Retire, Down, Up, Avoid, Heed}
 use Rattle.ir_epochs.specs.declared.entry.Entry.{Entry}
 use Rattle.ir_epochs.specs.declared.entry.Entry.TheVariants.{Opened, Changed}
 use Rattle.ir_epochs.specs.Stamps.{knows, registry_name}
@@ -18,6 +18,8 @@ changed b (Install s) = installed b s.epoch
 changed b (Retire f) = retired_below b f
 changed b (Down l) = marked b l false
 changed b (Up l) = marked b l true
+changed b (Avoid l) = heeding b l false
+changed b (Heed l) = heeding b l true
 
 abbrev pub entered : Board → Entry → Board
 entered b (Opened links s) = opening_board
@@ -33,12 +35,16 @@ stamp_after s (Install t) = t
 stamp_after s (Retire f) = s
 stamp_after s (Down l) = s
 stamp_after s (Up l) = s
+stamp_after s (Avoid l) = s
+stamp_after s (Heed l) = s
 
 abbrev pub stamp_next : Option Stamp → Change → Option Stamp
 stamp_next o (Install t) = Some t
 stamp_next o (Retire f) = o
 stamp_next o (Down l) = o
 stamp_next o (Up l) = o
+stamp_next o (Avoid l) = o
+stamp_next o (Heed l) = o
 
 abbrev pub stamped : Option Stamp → Entry → Option Stamp
 stamped o (Opened links s) = Some s
@@ -53,6 +59,8 @@ installs (Install s) = true
 installs (Retire f) = false
 installs (Down l) = false
 installs (Up l) = false
+installs (Avoid l) = false
+installs (Heed l) = false
 
 abbrev pub last_stamp : Option Stamp → Entry → Option Stamp
 last_stamp o (Opened links s) = None
@@ -92,14 +100,19 @@ MarksALink (Install s) = Unit {0}
 MarksALink (Retire f) = Unit {0}
 MarksALink (Down l) = l < MAX_LINKS
 MarksALink (Up l) = l < MAX_LINKS
+MarksALink (Avoid l) = l < MAX_LINKS
+MarksALink (Heed l) = l < MAX_LINKS
 
 -- The change may come next. What is installed is a later epoch of the same registry, over links of the opening's
--- network. A floor rises, up to the current epoch. A mark changes, and it is that of a link.
+-- network. A floor rises, up to the current epoch. A mark changes, and it is that of a link. Only a link
+-- that is up is to be avoided.
 abbrev pub MayComeNext : List Entry → Change → Type 0
 MayComeNext entries (Install s) = ((board_of entries).current < s.epoch) × (registry_name s ≡ registry_of entries) × IsOver (topology_of entries) (knows s).topology
 MayComeNext entries (Retire f) = ((board_of entries).floor < f) × (f ≤ (board_of entries).current)
 MayComeNext entries (Down l) = (l < opening_links entries) × (is_link_up (board_of entries) l ≡ true)
 MayComeNext entries (Up l) = (l < opening_links entries) × (is_link_up (board_of entries) l ≡ false)
+MayComeNext entries (Avoid l) = (l < opening_links entries) × (is_link_up (board_of entries) l ≡ true) × (is_heeded (board_of entries) l ≡ true)
+MayComeNext entries (Heed l) = (l < opening_links entries) × (is_heeded (board_of entries) l ≡ false)
 
 -- The stamp is that of the current epoch: the one installed last, of the opening's registry, with a plan over links
 -- of the opening's network.

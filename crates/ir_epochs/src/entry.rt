@@ -13,6 +13,10 @@ pub enum Change {
     Down(u16),
     /// A link comes up.
     Up(u16),
+    /// Later installs leave a link out.
+    Avoid(u16),
+    /// Later installs use a link again.
+    Heed(u16),
 }
 
 /// An entry of a board's list.
@@ -38,6 +42,8 @@ impl Change {
             Change::Retire(floor) => Change::Retire(*floor),
             Change::Down(link) => Change::Down(*link),
             Change::Up(link) => Change::Up(*link),
+            Change::Avoid(link) => Change::Avoid(*link),
+            Change::Heed(link) => Change::Heed(*link),
         }
     }
 
@@ -52,6 +58,8 @@ impl Change {
             Change::Retire(floor) => board.retired_below(*floor),
             Change::Down(link) => board.marked(*link, false),
             Change::Up(link) => board.marked(*link, true),
+            Change::Avoid(link) => board.heeding(*link, false),
+            Change::Heed(link) => board.heeding(*link, true),
         }
     }
 

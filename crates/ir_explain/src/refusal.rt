@@ -1,11 +1,12 @@
 //! Why a step of a script was refused.
 
+use crate::lines::line_with;
 use crate::sentence::{Pushed, Quoted, begin_line, joined};
 use crate::texts::RunTexts;
 use ir_core::{MAX_CHANGES, MAX_EPOCHS, Refused};
 
-/// Says what a kind of refusal means.
-fn push_reason(text: &mut String, refusal: Refused) -> Pushed {
+/// Says what a kind of refusal means, in a run that avoids a link or none.
+fn push_reason(text: &mut String, refusal: Refused, avoids: bool) -> Pushed {
     text.push_str(match refusal {
         Refused::EpochsFull => return write!(text, "all {MAX_EPOCHS} epochs are used"),
         Refused::TooManyChanges => return write!(
@@ -21,6 +22,10 @@ fn push_reason(text: &mut String, refusal: Refused) -> Pushed {
         Refused::Empty => "no packet is waiting there",
         Refused::BadView => "the board has no such version, or the node has read a later one",
         Refused::Same => "it changes nothing",
+        Refused::LinkDown => "the link is down",
+        Refused::Disconnected if avoids => {
+            "the links that are up and not avoided do not connect all nodes"
+        }
         Refused::Disconnected => "the links that are up do not connect all nodes",
         Refused::TooManyPackets => "the run already has as many packets as --packets allows",
         Refused::InboxFull => "the inbox already holds as many packets as --capacity allows",
@@ -34,6 +39,7 @@ pub fn push_refusal(text: &mut String, run: &RunTexts<'_>, at: usize, refusal: R
     let words = begin_line(run.alloc, text, &run.texts.script, at)?;
     let step = joined(run.alloc, words.as_slice())?;
     write!(text, "{} was refused: ", Quoted(step.as_slice()))?;
-    push_reason(text, refusal)?;
+    let avoids = line_with(run.alloc, run.texts.script.bytes, b"avoid", 0)? > 0;
+    push_reason(text, refusal, avoids)?;
     text.push_str("\n")
 }

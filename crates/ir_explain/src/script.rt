@@ -10,12 +10,13 @@ use ir_script::{ScriptError, ScriptFault};
 use std::alloc::Global;
 
 /// The first words of the lines of a live run's script, and after them those of a simulation alone.
-static COMMANDS: [&str; 10] = [
-    "inject", "drain", "down", "up", "install", "retire", "learn", "take", "read", "act",
+static COMMANDS: [&str; 12] = [
+    "inject", "drain", "down", "up", "avoid", "heed", "install", "retire", "learn", "take", "read",
+    "act",
 ];
 
 /// How many of them are of a live run.
-const LIVE_COMMANDS: usize = 6;
+const LIVE_COMMANDS: usize = 8;
 
 /// The kinds of plans.
 static KINDS: [&str; 4] = ["tree", "shortest", "compact", "landmark"];
@@ -29,6 +30,8 @@ fn form_of(command: &str) -> &'static str {
         "drain" => "drain",
         "down" => "down A B",
         "up" => "up A B",
+        "avoid" => "avoid A B",
+        "heed" => "heed A B",
         "install" => "install KIND ROOT",
         "retire" => "retire EPOCH",
         "learn" => "learn EPOCH",
@@ -89,7 +92,7 @@ fn push_bad_command(text: &mut String, run: &RunTexts<'_>, words: &[&[u8]]) -> P
 /// The places of the words of a line that are to name nodes.
 fn node_places(command: &str) -> &'static [usize] {
     match command {
-        "inject" | "down" | "up" => &[1, 2],
+        "inject" | "down" | "up" | "avoid" | "heed" => &[1, 2],
         "install" => &[2],
         "take" => &[1, 3],
         _ => &[1],

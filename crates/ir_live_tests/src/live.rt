@@ -259,6 +259,54 @@ fn nodes_meet(rt: HostRuntime) -> Result<(), Fail> {
     Ok(())
 }
 
+/// A link of a ring of three is avoided, carries a packet, and goes down after an install.
+const AVOIDED: [Command; 9] = [
+    Command::Avoid(0),
+    Command::Inject(0, 1),
+    Command::Install(Kind::Shortest, 0),
+    Command::Drain,
+    Command::Down(0),
+    Command::Avoid(0),
+    Command::Inject(0, 1),
+    Command::Heed(0),
+    Command::Drain,
+];
+
+/// What becomes of the packets: the second has a plan without the link.
+static BEFORE_AND_AFTER: [Became<'static>; 2] = [
+    Became {
+        hops: &[0, 1],
+        ..OVER
+    },
+    Became {
+        epoch: 2,
+        hops: &[0, 2, 1],
+        ..OVER
+    },
+];
+
+static AVOIDED_REFUSED: [(usize, Refused); 1] = [(5, Refused::LinkDown)];
+
+// Whether that becomes of them in a live run, and one command is refused.
+fn is_avoided<R: Threads + Wait + Sync>(rt: &R, alloc: Global) -> bool {
+    let edges = [("a", "b"), ("b", "c"), ("c", "a")];
+    let Some(net) = over_edges(rt, alloc, &edges, (Kind::Shortest, 0), (16, 64, 0)) else {
+        return false;
+    };
+    match run(rt, &net, &AVOIDED, &Open) {
+        Some(live) => {
+            live.refusals.as_slice() == AVOIDED_REFUSED.as_slice()
+                && tells_all(&live.report, &BEFORE_AND_AFTER)
+        }
+        None => false,
+    }
+}
+
+#[test]
+fn link_that_is_avoided(rt: HostRuntime) {
+    assert!(rt; is_avoided(&rt, rt.alloc()));
+}
+
 // Whether the example in the doc comment of a net is so.
 fn net_example<R: Threads + Wait + Sync>(rt: &R, alloc: Global) -> Option<bool> {
     let topology = network(alloc, &[("a", "b"), ("b", "c")])?;

@@ -12,7 +12,7 @@ use Rattle.ir_model.specs.Text.{content, words, is_plain}
 use Rattle.ir_model.specs.Topology.{Topology, IsTopology, node_count, ports_of}
 use Rattle.ir_core.specs.declared.event.Way.TheVariants.{Inbox, Link}
 use Rattle.ir_core.specs.declared.event.Event.{Event}
-use Rattle.ir_core.specs.declared.event.Event.TheVariants.{Inject, Learn, Take, Read, Act, Install, Retire, Down, Up}
+use Rattle.ir_core.specs.declared.event.Event.TheVariants.{Inject, Learn, Take, Read, Act, Install, Retire, Down, Up, Avoid, Heed}
 use Rattle.ir_core.specs.declared.event.Step.{Step}
 use Rattle.ir_core.specs.declared.event.Step.TheVariants as step
 use Rattle.ir_script.specs.declared.fault.ScriptFault.{ScriptFault}
@@ -86,12 +86,14 @@ module _ (detour : Detour) (nodes : List Name) (net : Topology) (is_net : IsTopo
       either_within (bytes_eq word (codes "inject")) _ _ (of_two_within (λ u v. Inject u v) (node_of nodes a) (node_of nodes b) (λ u v hu hv. and_from _ _ (node_within a u hu) (node_within b v hv)))
       (either_within (bytes_eq word (codes "down")) _ _ (of_one_within (λ l. Down l) (named_link nodes net a b) (link_within a b))
       (either_within (bytes_eq word (codes "up")) _ _ (of_one_within (λ l. Up l) (named_link nodes net a b) (link_within a b))
+      (either_within (bytes_eq word (codes "avoid")) _ _ (of_one_within (λ l. Avoid l) (named_link nodes net a b) (link_within a b))
+      (either_within (bytes_eq word (codes "heed")) _ _ (of_one_within (λ l. Heed l) (named_link nodes net a b) (link_within a b))
       (either_within (bytes_eq word (codes "read")) _ _ (of_two_within (λ u k. Read u k) (node_of nodes a) (number_of b) (λ u k hu hk. node_within a u hu))
       (either_within (bytes_eq word (codes "take") && bytes_eq b (codes "inbox")) _ _ (of_one_within (λ u. Take u Inbox) (node_of nodes a) (λ u hu. and_from _ _ (node_within a u hu) refl))
       (either_within (bytes_eq word (codes "install") && bytes_eq a (codes "tree")) _ _ (of_one_within (λ r. Install Tree r) (node_of nodes b) (node_within b))
       (either_within (bytes_eq word (codes "install") && bytes_eq a (codes "shortest")) _ _ (of_one_within (λ r. Install Shortest r) (node_of nodes b) (node_within b))
       (either_within (bytes_eq word (codes "install") && bytes_eq a (codes "compact")) _ _ (of_one_within (λ r. Install Compact r) (node_of nodes b) (node_within b))
-      (either_within (bytes_eq word (codes "install") && bytes_eq a (codes "landmark")) _ _ (of_one_within (λ r. Install (Landmark detour) r) (node_of nodes b) (node_within b)) tt))))))))
+      (either_within (bytes_eq word (codes "install") && bytes_eq a (codes "landmark")) _ _ (of_one_within (λ r. Install (Landmark detour) r) (node_of nodes b) (node_within b)) tt))))))))))
 
   three_within : (word a b c : Name) → EventWithin (event_of_three nodes net word a b c)
   three_within word a b c =

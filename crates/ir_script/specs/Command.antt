@@ -10,7 +10,7 @@ use Rattle.ir_model.specs.Edgelist.{is_digit, value_of}
 use Rattle.ir_model.specs.Topology.{Topology, ports_of}
 use Rattle.ir_core.specs.declared.event.Way.TheVariants.{Inbox, Link}
 use Rattle.ir_core.specs.declared.event.Event.{Event}
-use Rattle.ir_core.specs.declared.event.Event.TheVariants.{Inject, Learn, Take, Read, Act, Install, Retire, Down, Up}
+use Rattle.ir_core.specs.declared.event.Event.TheVariants.{Inject, Learn, Take, Read, Act, Install, Retire, Down, Up, Avoid, Heed}
 use Rattle.ir_core.specs.declared.event.Step.{Step}
 use Rattle.ir_core.specs.declared.event.Step.TheVariants as step
 use Rattle.ir_core.specs.declared.command.Command.{Command}
@@ -80,13 +80,15 @@ event_of_one nodes command first =
     else if bytes_eq command (codes "retire") then of_one (λ f. Retire f) (number_of first)
     else Err BadCommand
 
--- `inject A B`, `down A B`, `up A B`, `read N K`, `take N inbox`, `install tree R`, `install shortest R`, `install compact R`,
--- `install landmark R`, whose ways go round so far
+-- `inject A B`, `down A B`, `up A B`, `avoid A B`, `heed A B`, `read N K`, `take N inbox`, `install tree R`,
+-- `install shortest R`, `install compact R`, `install landmark R`, whose ways go round so far
 abbrev pub event_of_two : Detour → List Name → Topology → Name → Name → Name → Result Event ScriptFault
 event_of_two detour nodes net command first second =
     if bytes_eq command (codes "inject") then of_two (λ u v. Inject u v) (node_of nodes first) (node_of nodes second)
     else if bytes_eq command (codes "down") then of_one (λ l. Down l) (named_link nodes net first second)
     else if bytes_eq command (codes "up") then of_one (λ l. Up l) (named_link nodes net first second)
+    else if bytes_eq command (codes "avoid") then of_one (λ l. Avoid l) (named_link nodes net first second)
+    else if bytes_eq command (codes "heed") then of_one (λ l. Heed l) (named_link nodes net first second)
     else if bytes_eq command (codes "read") then of_two (λ u k. Read u k) (node_of nodes first) (number_of second)
     else if bytes_eq command (codes "take") && bytes_eq second (codes "inbox") then of_one (λ u. Take u Inbox) (node_of nodes first)
     else if bytes_eq command (codes "install") && bytes_eq first (codes "tree") then of_one (λ r. Install Tree r) (node_of nodes second)
@@ -132,6 +134,8 @@ command_of (step.Event (Install kind r)) = Ok (command.Install kind r)
 command_of (step.Event (Retire f)) = Ok (command.Retire f)
 command_of (step.Event (Down l)) = Ok (command.Down l)
 command_of (step.Event (Up l)) = Ok (command.Up l)
+command_of (step.Event (Avoid l)) = Ok (command.Avoid l)
+command_of (step.Event (Heed l)) = Ok (command.Heed l)
 command_of step.Drain = Ok command.Drain
 command_of (step.Event (Learn e)) = Err BadCommand
 command_of (step.Event (Take u way)) = Err BadCommand

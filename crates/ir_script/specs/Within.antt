@@ -4,7 +4,7 @@ use Rattle.ir_model.specs.Topology.{Topology, node_count}
 use Rattle.ir_core.specs.declared.event.Way.{Way}
 use Rattle.ir_core.specs.declared.event.Way.TheVariants.{Inbox, Link}
 use Rattle.ir_core.specs.declared.event.Event.{Event}
-use Rattle.ir_core.specs.declared.event.Event.TheVariants.{Inject, Learn, Take, Read, Act, Install, Retire, Down, Up}
+use Rattle.ir_core.specs.declared.event.Event.TheVariants.{Inject, Learn, Take, Read, Act, Install, Retire, Down, Up, Avoid, Heed}
 use Rattle.ir_core.specs.declared.event.Step.{Step}
 use Rattle.ir_core.specs.declared.event.Step.TheVariants as step
 
@@ -32,6 +32,8 @@ is_event_within net (Install kind r) = is_node_of net r
 is_event_within net (Retire f) = true
 is_event_within net (Down l) = is_link net l
 is_event_within net (Up l) = is_link net l
+is_event_within net (Avoid l) = is_link net l
+is_event_within net (Heed l) = is_link net l
 
 -- the nodes and links of a step are those of the network
 abbrev pub is_step_within : Topology → Step → Bool

@@ -55,6 +55,12 @@ fn event_of_two(
     if is_word(command, b"up") {
         return Ok(Event::Up(link_of(graph, topology, first, second)?));
     }
+    if is_word(command, b"avoid") {
+        return Ok(Event::Avoid(link_of(graph, topology, first, second)?));
+    }
+    if is_word(command, b"heed") {
+        return Ok(Event::Heed(link_of(graph, topology, first, second)?));
+    }
     if is_word(command, b"read") {
         return Ok(Event::Read(node_of(graph, first)?, number_of(second)? as usize));
     }
@@ -149,6 +155,8 @@ pub fn command_of(step: Step) -> Result<Command, ScriptFault>
         Step::Event(Event::Retire(floor)) => Ok(Command::Retire(floor)),
         Step::Event(Event::Down(link)) => Ok(Command::Down(link)),
         Step::Event(Event::Up(link)) => Ok(Command::Up(link)),
+        Step::Event(Event::Avoid(link)) => Ok(Command::Avoid(link)),
+        Step::Event(Event::Heed(link)) => Ok(Command::Heed(link)),
         Step::Drain => Ok(Command::Drain),
         Step::Event(Event::Learn(_) | Event::Take(_, _) | Event::Read(_, _) | Event::Act(_)) => {
             Err(ScriptFault::BadCommand)

@@ -32,8 +32,8 @@ impl Script<Command> {
 }
 
 /// The commands that a script of a live run names, each with the number of its line, or the
-/// script's first faulty line. A line is one of `inject`, `down`, `up`, `install`, `retire` and
-/// `drain`, as for `parse_script`; one that begins with `learn`, `take`, `read` or `act` is a
+/// script's first faulty line. A line is one of `inject`, `down`, `up`, `avoid`, `heed`, `install`,
+/// `retire` and `drain`, as for `parse_script`; one that begins with `learn`, `take`, `read` or `act` is a
 /// `BadCommand`, whatever follows. Faults and their order are those of `parse_script`. Condition:
 /// the topology is that of the graph.
 pub fn parse_live(

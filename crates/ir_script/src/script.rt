@@ -153,7 +153,7 @@ pub fn parse<T: ScriptItem>(
 /// The steps that a script names, each with the number of its line, or the script's first faulty line. A line is one of
 ///
 /// - `inject A B`: a packet from A to B;
-/// - `down A B`, `up A B`: the link between A and B;
+/// - `down A B`, `up A B`, `avoid A B`, `heed A B`: the link between A and B;
 /// - `install tree R`, `install shortest R`, `install compact R`, `install landmark R`: a plan with
 ///   root R, of kind landmark with this detour;
 /// - `retire F`, `learn E`: epochs;

@@ -7,7 +7,7 @@ use Rattle.std.proofs.lemmas.Option.{same_Some, none-some, slice_get_within, get
 use Rattle.ir_model.specs.Topology.{Topology, IsTopology, node_count}
 use Rattle.ir_core.specs.declared.TheConstants.{MAX_NODES, MAX_LINKS, MAX_CAPACITY, MAX_PACKETS, MAX_RESTAMPS}
 use Rattle.ir_core.specs.declared.command.Command.{Command}
-use Rattle.ir_core.specs.declared.command.Command.TheVariants.{Inject, Install, Retire, Down, Up, Drain}
+use Rattle.ir_core.specs.declared.command.Command.TheVariants.{Inject, Install, Retire, Down, Up, Avoid, Heed, Drain}
 use Rattle.ir_core.specs.Record.{Record}
 use Rattle.ir_core.specs.Opened.{open_refused, is_small, is_within}
 use Rattle.ir_epochs.specs.declared.registry.Stamp.{Stamp}
@@ -65,6 +65,12 @@ module _ (was_full : Word Parcel) {B : Type 0} (before next : Desk B) (n : ℕ) 
   kept (Up link) (Ok None) k = ap (λ i. i.opening) k.0
   kept (Up link) (Ok (Some s)) k = absurd k
   kept (Up link) (Err why) k = ap (λ i. i.opening) k.0
+  kept (Avoid link) (Ok None) k = ap (λ i. i.opening) k.0
+  kept (Avoid link) (Ok (Some s)) k = absurd k
+  kept (Avoid link) (Err why) k = ap (λ i. i.opening) k.0
+  kept (Heed link) (Ok None) k = ap (λ i. i.opening) k.0
+  kept (Heed link) (Ok (Some s)) k = absurd k
+  kept (Heed link) (Err why) k = ap (λ i. i.opening) k.0
   kept Drain answer k = ap (λ i. i.opening) k.1
 
   -- the packet that a command put in
@@ -78,6 +84,8 @@ module _ (was_full : Word Parcel) {B : Type 0} (before next : Desk B) (n : ℕ) 
   one_entered e (Retire floor) answer id epoch later k all = all
   one_entered e (Down link) answer id epoch later k all = all
   one_entered e (Up link) answer id epoch later k all = all
+  one_entered e (Avoid link) answer id epoch later k all = all
+  one_entered e (Heed link) answer id epoch later k all = all
   one_entered e Drain answer id epoch later k all = all
 
 -- the packets that commands put in

@@ -5,7 +5,7 @@ use Rattle.ir_model.specs.declared.Kind.TheVariants.{Tree, Shortest, Compact, La
 use Rattle.ir_model.specs.Graph.{Name}
 use Rattle.ir_model.specs.Topology.{Topology}
 use Rattle.ir_core.specs.declared.event.Event.{Event}
-use Rattle.ir_core.specs.declared.event.Event.TheVariants.{Inject, Learn, Take, Read, Act, Install, Retire, Down, Up}
+use Rattle.ir_core.specs.declared.event.Event.TheVariants.{Inject, Learn, Take, Read, Act, Install, Retire, Down, Up, Avoid, Heed}
 use Rattle.ir_core.specs.declared.event.Way.{Way}
 use Rattle.ir_core.specs.declared.event.Way.TheVariants.{Inbox, Link}
 use Rattle.ir_core.specs.declared.event.Reply.{Reply}
@@ -33,8 +33,8 @@ abbrev pub way_words : List Name → Topology → ℕ → Way → List Name
 way_words nodes net u Inbox = codes "inbox" ∷ []
 way_words nodes net u (Link l) = codes "from" ∷ name_at nodes (other_end (link_at net l) u) ∷ []
 
--- `inject A B`, `learn E`, `take N inbox`, `take N from M`, `read N K`, `act N`, `install KIND R`, `retire F`, `down A B`
--- or `up A B`
+-- `inject A B`, `learn E`, `take N inbox`, `take N from M`, `read N K`, `act N`, `install KIND R`, `retire F`, `down A B`,
+-- `up A B`, `avoid A B` or `heed A B`
 abbrev pub event_words : List Name → Topology → Event → List Name
 event_words nodes net (Inject u v) = codes "inject" ∷ name_at nodes u ∷ name_at nodes v ∷ []
 event_words nodes net (Learn e) = codes "learn" ∷ decimal e ∷ []
@@ -45,6 +45,8 @@ event_words nodes net (Install kind r) = codes "install" ∷ kind_word kind ∷ 
 event_words nodes net (Retire f) = codes "retire" ∷ decimal f ∷ []
 event_words nodes net (Down l) = codes "down" ∷ link_words nodes net l
 event_words nodes net (Up l) = codes "up" ∷ link_words nodes net l
+event_words nodes net (Avoid l) = codes "avoid" ∷ link_words nodes net l
+event_words nodes net (Heed l) = codes "heed" ∷ link_words nodes net l
 
 -- ---- what it came to
 
@@ -77,7 +79,7 @@ refused_words =
     codes "NoNode" ∷ codes "NoLink" ∷ codes "NoChannel" ∷ codes "NoEpoch" ∷ codes "HandFull"
     ∷ codes "HandEmpty" ∷ codes "Empty" ∷ codes "BadView" ∷ codes "Same" ∷ codes "EpochsFull"
     ∷ codes "Disconnected" ∷ codes "TooManyPackets" ∷ codes "NoMemory" ∷ codes "InboxFull" ∷ codes "TooManyChanges"
-    ∷ codes "Used" ∷ []
+    ∷ codes "Used" ∷ codes "LinkDown" ∷ []
 
 abbrev pub refused_word : Refused → Name
 refused_word refusal = slice_index_or refused_words (refusal_code refusal - 1) []

@@ -2,7 +2,7 @@
 ghost use Rattle.std.specs.Prelude.{◌≡◌, ◌++◌, ◌∷◌, [], OnOk, string_bytes, flat_map, decimal, slice_get, option_copied};
 ghost use Rattle.ir_model.specs.{Graph.names};
 ghost use Rattle.ir_trace.specs.Rows.{spaced};
-ghost use Rattle.ir_steps.specs.Words.{kind_word, event_words, packet_words, end_words, reply_words, told_words, event_line, refused_word};
+ghost use Rattle.ir_steps.specs.Words.{kind_word, link_words, event_words, packet_words, end_words, reply_words, told_words, event_line, refused_word};
 
 use crate::names::{Network, push_fate, push_link, push_node, push_way};
 use ir_core::{Event, Kind, Record, Refused, Reply, World};
@@ -10,7 +10,7 @@ use ir_trace::text::{push_next_number, push_word};
 use std::alloc::AllocError;
 
 /// The names of the refusals, in the order of their numbers, which are counted from 1.
-static REFUSALS: [&str; 16] = [
+static REFUSALS: [&str; 17] = [
     "NoNode",
     "NoLink",
     "NoChannel",
@@ -27,6 +27,7 @@ static REFUSALS: [&str; 16] = [
     "InboxFull",
     "TooManyChanges",
     "Used",
+    "LinkDown",
 ];
 
 /// The name of a refusal.
@@ -46,6 +47,20 @@ fn kind_word(kind: Kind) -> &'static str
         Kind::Compact => "compact",
         Kind::Landmark(_) => "landmark",
     }
+}
+
+/// Writes a word and the ends of a link, each after a space.
+fn push_mark(
+    text: &mut String,
+    net: &Network<'_>,
+    word: &str,
+    link: u16,
+) -> Result<(), AllocError>
+    ensures { OnOk result (string_bytes text.new ≡ string_bytes text.old
+        ++ flat_map spaced (word.now ∷ link_words (names net.now.graph.now) net.now.topology.now link)) }
+{
+    push_word(text, word)?;
+    push_link(text, net, link)
 }
 
 /// Writes an event in the words of a script, each after a space.
@@ -86,14 +101,10 @@ fn push_event(text: &mut String, net: &Network<'_>, event: Event) -> Result<(), 
             push_word(text, "retire")?;
             push_next_number(text, floor as usize)
         }
-        Event::Down(link) => {
-            push_word(text, "down")?;
-            push_link(text, net, link)
-        }
-        Event::Up(link) => {
-            push_word(text, "up")?;
-            push_link(text, net, link)
-        }
+        Event::Down(link) => push_mark(text, net, "down", link),
+        Event::Up(link) => push_mark(text, net, "up", link),
+        Event::Avoid(link) => push_mark(text, net, "avoid", link),
+        Event::Heed(link) => push_mark(text, net, "heed", link),
     }
 }
 

@@ -47,7 +47,7 @@ fn refusals_of_a_plan_in_words(rt: HostRuntime) {
 }
 
 /// The refusals, each with its number of all, and of those of an install, of a change and of an injection.
-static NUMBERS: [(Refused, [u8; 4]); 16] = [
+static NUMBERS: [(Refused, [u8; 4]); 17] = [
     (Refused::NoNode, [1, 1, 0, 1]),
     (Refused::NoLink, [2, 0, 1, 0]),
     (Refused::NoChannel, [3, 0, 0, 0]),
@@ -64,6 +64,7 @@ static NUMBERS: [(Refused, [u8; 4]); 16] = [
     (Refused::InboxFull, [14, 0, 0, 4]),
     (Refused::TooManyChanges, [15, 5, 4, 0]),
     (Refused::Used, [16, 6, 0, 0]),
+    (Refused::LinkDown, [17, 0, 5, 0]),
 ];
 
 /// The numbers of a refusal.

@@ -5,6 +5,8 @@
 #![tactic(auto)]
 
 #[cfg(test)]
+mod avoids;
+#[cfg(test)]
 mod between;
 #[cfg(test)]
 mod changed;

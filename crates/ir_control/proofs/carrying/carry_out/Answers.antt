@@ -40,5 +40,13 @@ pub returns-in-Up : goal.returns-in-Up
 returns-in-Up g c = known g.R.Moments.was_full _ (command.Up c.in-Up.link) (desk_of c.args.parts.now) _ c.err-in-Up.result c.answered-in-Up.result c.answered-in-Up.ensures c.in-Up.is
     (changed_as _ (change.Up c.in-Up.link) (desk_of c.args.parts.now) _ c.up.result c.err-in-Up.result c.err-in-Up.ensures.value refl c.up.ensures.answer)
 
+pub returns-in-Avoid : goal.returns-in-Avoid
+returns-in-Avoid g c = known g.R.Moments.was_full _ (command.Avoid c.in-Avoid.link) (desk_of c.args.parts.now) _ c.err-in-Avoid.result c.answered-in-Avoid.result c.answered-in-Avoid.ensures c.in-Avoid.is
+    (changed_as _ (change.Avoid c.in-Avoid.link) (desk_of c.args.parts.now) _ c.avoid.result c.err-in-Avoid.result c.err-in-Avoid.ensures.value refl c.avoid.ensures.answer)
+
+pub returns-in-Heed : goal.returns-in-Heed
+returns-in-Heed g c = known g.R.Moments.was_full _ (command.Heed c.in-Heed.link) (desk_of c.args.parts.now) _ c.err-in-Heed.result c.answered-in-Heed.result c.answered-in-Heed.ensures c.in-Heed.is
+    (changed_as _ (change.Heed c.in-Heed.link) (desk_of c.args.parts.now) _ c.heed.result c.err-in-Heed.result c.err-in-Heed.ensures.value refl c.heed.ensures.answer)
+
 pub returns-in-Drain : goal.returns-in-Drain
 returns-in-Drain g c = subst (λ (k : Command). IsCarriedOut g.R.Moments.was_full k (desk_of c.args.parts.now) (Ok None) (desk_of c.args.parts.now)) (sym c.in-Drain.is) (refl, refl, refl)

@@ -30,3 +30,15 @@ returns-in-Up g c =
     let is = c.in-Up.is in
     subst (λ (e : Event). IfOk c.change-in-Up.result (λ _. ControlsOn c.args.world.now (step.Event e) c.args.built.now.items c.change-in-Up.new.world c.args.built.now.items)) (sym is)
     (of_installs c.change-in-Up.result (λ (installs : List Install). ControlsOn c.args.world.now (step.Event (event.Up c.in-Up.link)) installs c.change-in-Up.new.world installs) c.change-in-Up.ensures c.args.built.now.items)
+
+pub returns-in-Avoid : goal.returns-in-Avoid
+returns-in-Avoid g c =
+    let is = c.in-Avoid.is in
+    subst (λ (e : Event). IfOk c.change-in-Avoid.result (λ _. ControlsOn c.args.world.now (step.Event e) c.args.built.now.items c.change-in-Avoid.new.world c.args.built.now.items)) (sym is)
+    (of_installs c.change-in-Avoid.result (λ (installs : List Install). ControlsOn c.args.world.now (step.Event (event.Avoid c.in-Avoid.link)) installs c.change-in-Avoid.new.world installs) c.change-in-Avoid.ensures c.args.built.now.items)
+
+pub returns-in-Heed : goal.returns-in-Heed
+returns-in-Heed g c =
+    let is = c.in-Heed.is in
+    subst (λ (e : Event). IfOk c.change-in-Heed.result (λ _. ControlsOn c.args.world.now (step.Event e) c.args.built.now.items c.change-in-Heed.new.world c.args.built.now.items)) (sym is)
+    (of_installs c.change-in-Heed.result (λ (installs : List Install). ControlsOn c.args.world.now (step.Event (event.Heed c.in-Heed.link)) installs c.change-in-Heed.new.world installs) c.change-in-Heed.ensures c.args.built.now.items)

@@ -15,6 +15,12 @@ returns-in-Down-clause-answer g c = rw c.in-Down.is (elim c.mark.ensures [ inl a
 pub returns-in-Up-clause-answer : goal.returns-in-Up-clause-answer
 returns-in-Up-clause-answer g c = rw c.in-Up.is (elim c.mark-in-Up.ensures [ inl a ↦ inl (_, refl, a) | inr a ↦ inr (a.0, a.1, a.2) ])
 
+pub returns-in-Avoid-clause-answer : goal.returns-in-Avoid-clause-answer
+returns-in-Avoid-clause-answer g c = rw c.in-Avoid.is (elim c.heed.ensures [ inl a ↦ inl (_, refl, a) | inr a ↦ inr (a.0, a.1, a.2) ])
+
+pub returns-in-Heed-clause-answer : goal.returns-in-Heed-clause-answer
+returns-in-Heed-clause-answer g c = rw c.in-Heed.is (elim c.heed-in-Heed.ensures [ inl a ↦ inl (_, refl, a) | inr a ↦ inr (a.0, a.1, a.2) ])
+
 pub returns-in-Take-clause-same_opening : goal.returns-in-Take-clause-same_opening
 returns-in-Take-clause-same_opening g c = same_setting c.args.self.now c.take.new.self _ c.take.result c.take.ensures
 
@@ -50,6 +56,12 @@ returns-in-Down-clause-same_opening g c = same_setting_or c.args.self.now c.mark
 
 pub returns-in-Up-clause-same_opening : goal.returns-in-Up-clause-same_opening
 returns-in-Up-clause-same_opening g c = same_setting_or c.args.self.now c.mark-in-Up.new.self _ c.mark-in-Up.result c.mark-in-Up.ensures
+
+pub returns-in-Avoid-clause-same_opening : goal.returns-in-Avoid-clause-same_opening
+returns-in-Avoid-clause-same_opening g c = same_setting_or c.args.self.now c.heed.new.self _ c.heed.result c.heed.ensures
+
+pub returns-in-Heed-clause-same_opening : goal.returns-in-Heed-clause-same_opening
+returns-in-Heed-clause-same_opening g c = same_setting_or c.args.self.now c.heed-in-Heed.new.self _ c.heed-in-Heed.result c.heed-in-Heed.ensures
 
 pub returns-in-Install-clause-answer : goal.returns-in-Install-clause-answer
 returns-in-Install-clause-answer g c = rw c.in-Install.is c.install.ensures

@@ -1,5 +1,6 @@
-use Rattle.std.proofs.Common.{arith, refl, sym, length, take, ◌+◌, ◌∙◌}
+use Rattle.std.proofs.Common.{arith, refl, sym, length, ◌+◌, ◌∙◌}
 use Rattle.ir_core.specs.Inside.{world_of}
+use Rattle.ir_core.specs.Board.{links_used}
 use Rattle.ir_core.proofs.Keeps.{newest_known, installed_at}
 use Rattle.ir_core.proofs.Refusals.{none_there, install_free}
 use Rattle.ir_core.proofs.Installing.{refused_here, asked_here, plan_refused_here, made_plan, installed_here, installed_world}
@@ -29,7 +30,7 @@ invariant_of-self-2 g c =
     record {
       world = installed_at (world_of c.self.inside) c.self.invariant.world refl (c.len-epochs.result + 1) c.newest-newest.result c.installed-board.result c.in_ok-plan.plan c.self.inside.boards.items c.keep_epoch.new.boards.items c.keep_epoch.new.plans.items
           n (omega (arith, c.self.inside.plans.ok.0, c.len-epochs.ensures, free.1)) free.2 (omega (arith, c.self.inside.plans.ok.0, c.len-epochs.ensures))
-          (made_plan _ c.args.kind c.args.root (take (length c.self.inside.topology.links) c.newest-newest.result.up) c.in_ok-plan.plan c.in_ok-plan.ensures.made) c.installed-board.ensures refl c.in-Ok.ensures.board c.in-Ok.ensures.plan;
+          (made_plan _ c.args.kind c.args.root (links_used c.newest-newest.result (length c.self.inside.topology.links)) c.in_ok-plan.plan c.in_ok-plan.ensures.made) c.installed-board.ensures refl c.in-Ok.ensures.board c.in-Ok.ensures.plan;
       room = c.self.invariant.room;
     }
 
