@@ -5,6 +5,7 @@ use Rattle.ir_model.specs.Text.{lines}
 use Rattle.ir_model.specs.Topology.{Topology}
 use Rattle.ir_model.specs.OfGraph.{topology_of_graph}
 use Rattle.ir_core.specs.declared.built.Install.{Install}
+use Rattle.ir_plan.specs.Building.{FromRoot}
 use Rattle.ir_core.specs.declared.event.OpenError.{OpenError}
 use Rattle.ir_core.specs.declared.event.OpenError.TheVariants as openings
 use Rattle.ir_core.specs.declared.event.Step.{Step}
@@ -162,7 +163,7 @@ not_opened : (opening : Opening) (setting : Setting) (e : OpenError) → e ≢ o
 not_opened opening setting e memory refused accepted opened = by (subst (λ (x : Option OpenError). IsRefusedAs opening.topology e x) accepted refused)
   where
     by : IsRefusedAs opening.topology e None → ⊥
-    by (inl a) = not_both opening.labels opening.kind opening.root opening.topology setting.first opened.first a.1
+    by (inl a) = not_both (FromRoot opening.labels opening.root) opening.kind opening.topology setting.first opened.first a.1
     by (inr a) = memory a
 
 -- ---- answers

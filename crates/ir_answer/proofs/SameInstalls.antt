@@ -7,8 +7,9 @@ use Rattle.ir_model.specs.Topology.{Topology, restrict}
 use Rattle.ir_model.specs.Walk.{IsConnected, IsDisconnected}
 use Rattle.ir_model.specs.Plan.{Plan}
 use Rattle.ir_plan.specs.declared.tour.LabelOrder.{LabelOrder}
-use Rattle.ir_plan.specs.Starts.{IsLabelledBy}
-use Rattle.ir_plan.specs.Building.{FromRoot, IsPlanBy}
+use Rattle.ir_plan.specs.Building.{Labelling, FromRoot, IsPlanBy}
+use Rattle.ir_core.proofs.Labelled.{IsTwin, twins, twin_next, made_moved}
+use Rattle.ir_core.proofs.Alike.{AreTwins, twins-length, twins-push, first_twins, next_same}
 use Rattle.ir_core.specs.declared.opening.Opening.{Opening}
 use Rattle.ir_core.specs.declared.board.Board.{Board}
 use Rattle.ir_core.specs.Board.{links_used, marked, heeding, retired_below, installed}
@@ -21,8 +22,8 @@ use Rattle.ir_core.specs.declared.event.Refused.{Refused}
 use Rattle.ir_core.specs.Setting.{Setting, nodes_of, links_of}
 use Rattle.ir_core.specs.Entry.{Entry, DidChange}
 use Rattle.ir_core.specs.History as history
-use Rattle.ir_core.specs.Meaning.{IsMade, InstallsUnless, unless, install_refusal, installs_made, topology_up, newest_of, sight_after, with_entry}
-use Rattle.ir_core.specs.Installed.{IsTaken, IsControlled, IsControlRun, IsBuiltFrom, AreBuiltFrom, AreInstallsOf}
+use Rattle.ir_core.specs.Meaning.{IsMade, Installs, InstallsUnless, labelling_next, unless, install_refusal, installs_made, topology_up, newest_of, sight_after, with_entry}
+use Rattle.ir_core.specs.Installed.{labelled_by, IsTaken, IsControlled, IsControlRun, IsBuiltFrom, AreBuiltFrom, AreInstallsOf}
 use Rattle.ir_trace.specs.declared.finding.FindingKind.{FindingKind}
 use Rattle.ir_trace.specs.declared.finding.FindingKind.TheVariants.{NotTrace, BadRow, UnknownNode, UnknownEpoch, NotAPrefix, NotAtDestination, BadWeight, Repeated, NoMemory}
 use Rattle.ir_trace.specs.Row.{TraceRow}
@@ -31,39 +32,18 @@ use Rattle.ir_answer.specs.Agreed.{HaveSamePlans}
 
 -- ---- two runs of the controller's steps
 
--- two plans of one kind, root and network
-abbrev IsLike : Plan → Plan → Type 0
-IsLike s t = (s.kind ≡ t.kind) × (s.root ≡ t.root) × (s.topology ≡ t.topology)
-
-abbrev AreLike : List Plan → List Plan → Type 0
-AreLike [] [] = Unit {0}
-AreLike [] (t ∷ ts) = ⊥
-AreLike (s ∷ ss) [] = ⊥
-AreLike (s ∷ ss) (t ∷ ts) = IsLike s t × AreLike ss ts
-
-like-length : (ss ts : List Plan) → AreLike ss ts → length ss ≡ length ts
-like-length [] [] h = refl
-like-length [] (t ∷ ts) h = absurd h
-like-length (s ∷ ss) [] h = absurd h
-like-length (s ∷ ss) (t ∷ ts) h = ap suc (like-length ss ts h.1)
-
-like-push : (ss ts : List Plan) (s t : Plan) → AreLike ss ts → IsLike s t → AreLike (ss ++ s ∷ []) (ts ++ t ∷ [])
-like-push [] [] s t h is = (is, tt)
-like-push [] (y ∷ ts) s t h is = absurd h
-like-push (x ∷ ss) [] s t h is = absurd h
-like-push (x ∷ ss) (y ∷ ts) s t h is = (h.0, like-push ss ts s t h.1 is)
-
 -- no plan is of a network that is disconnected
-pub not_both : (labels : LabelOrder) (kind : Kind) (root : ℕ) (net : Topology) (t : Plan) → IsMade labels kind root net (Some t) → IsDisconnected net → ⊥
-not_both labels kind root net t made apart =
+pub not_both : (labels : Labelling) (kind : Kind) (net : Topology) (t : Plan) → IsMade labels kind net (Some t) → IsDisconnected net → ⊥
+not_both labels kind net t made apart =
     let walk = subst (λ (n : Topology). IsConnected n) made.over made.valid.connected apart.0 apart.1 apart.2 apart.3 in
     apart.4 walk.0 walk.1
 
--- two settings over one network, and two histories with the same boards, and plans of the same kinds, roots and networks
-module _ (o p : Setting) (over : o.topology ≡ p.topology) where
+-- two settings over one network that label alike, and two histories with the same boards, and plans of the same kinds, roots,
+-- networks and labels
+module _ (o p : Setting) (over : o.topology ≡ p.topology) (order : o.labels ≡ p.labels) (keep : o.keeps ≡ p.keeps) (first : o.first.order ≡ p.first.order) where
   record AreAlike (log other : List Entry) : Type 0 where
     boards : history.boards log ≡ history.boards other
-    plans : AreLike (history.plans o log) (history.plans p other)
+    plans : AreTwins (history.plans o log) (history.plans p other)
 
   -- the histories after one event
   taken : (log other later next : List Entry) (w v : Result Entry Refused) → later ≡ with_entry log w → next ≡ with_entry other v → AreAlike (with_entry log w) (with_entry other v) → AreAlike later next
@@ -119,33 +99,45 @@ module _ (o p : Setting) (over : o.topology ≡ p.topology) where
   refused_same : (log other : List Entry) → AreAlike log other → (root : ℕ) → install_refusal o (sight_after o log) root ≡ install_refusal p (sight_after p other) root
   refused_same log other is root =
       ap (λ (boards : List Board). install_refused (nodes_of o) (length (history.plans o log)) (newest_of boards) root) is.boards
-      ∙ ap (λ (n : ℕ). install_refused (nodes_of o) n (newest_of (history.boards other)) root) (like-length _ _ is.plans)
+      ∙ ap (λ (n : ℕ). install_refused (nodes_of o) n (newest_of (history.boards other)) root) (twins-length _ _ is.plans)
       ∙ ap (λ (net : Topology). install_refusal (record p { topology = net }) (sight_after p other) root) over
 
-  installed_alike : (log other : List Entry) → AreAlike log other → (kind : Kind) (root : ℕ) (x y : Option Plan) → IsMade o.labels kind root (topology_up o (sight_after o log)) x → IsMade p.labels kind root (topology_up p (sight_after p other)) y →
+  -- by what the next plan is labelled
+  labels_same : (log other : List Entry) → AreAlike log other → (kind : Kind) (root : ℕ) → labelling_next o (sight_after o log) kind root ≡ labelling_next p (sight_after p other) kind root
+  labels_same log other is kind root = next_same o p order keep first (history.plans o log) (history.plans p other) is.plans kind root
+
+  installed_alike : (log other : List Entry) → AreAlike log other → (labels : Labelling) (kind : Kind) (x y : Option Plan) → IsMade labels kind (topology_up o (sight_after o log)) x → IsMade labels kind (topology_up p (sight_after p other)) y →
       AreAlike (with_entry log (installs_made (sight_after o log) x)) (with_entry other (installs_made (sight_after p other) y))
-  installed_alike log other is kind root None None made given = is
-  installed_alike log other is kind root None (Some u) made given =
-      absurd (not_both p.labels kind root (topology_up p (sight_after p other)) u given (subst (λ (net : Topology). IsDisconnected net) (up_same log other is) made))
-  installed_alike log other is kind root (Some t) None made given =
-      absurd (not_both o.labels kind root (topology_up o (sight_after o log)) t made (subst (λ (net : Topology). IsDisconnected net) (sym (up_same log other is)) given))
-  installed_alike log other is kind root (Some t) (Some u) made given =
-      let count = like-length (history.plans o log) (history.plans p other) is.plans in
+  installed_alike log other is labels kind None None made given = is
+  installed_alike log other is labels kind None (Some u) made given =
+      absurd (not_both labels kind (topology_up p (sight_after p other)) u given (subst (λ (net : Topology). IsDisconnected net) (up_same log other is) made))
+  installed_alike log other is labels kind (Some t) None made given =
+      absurd (not_both labels kind (topology_up o (sight_after o log)) t made (subst (λ (net : Topology). IsDisconnected net) (sym (up_same log other is)) given))
+  installed_alike log other is labels kind (Some t) (Some u) made given =
+      let count = twins-length (history.plans o log) (history.plans p other) is.plans in
       let board = ap (λ (boards : List Board). installed (newest_of boards) (length (history.plans o log) + 1)) is.boards ∙ ap (λ (n : ℕ). installed (newest_of (history.boards other)) (n + 1)) count in
+      let here = subst (λ (net : Topology). IsMade labels kind net (Some t)) (up_same log other is) made in
       record {
         boards = ap (λ (boards : List Board). boards ++ installed (newest_of (history.boards log)) (length (history.plans o log) + 1) ∷ []) is.boards ∙ ap (λ (b : Board). history.boards other ++ b ∷ []) board;
-        plans = like-push (history.plans o log) (history.plans p other) t u is.plans (made.of_kind ∙ sym given.of_kind, made.labelled.1 ∙ sym given.labelled.1, made.over ∙ up_same log other is ∙ sym given.over);
+        plans = twins-push (history.plans o log) (history.plans p other) t u is.plans (twins (topology_up p (sight_after p other)) kind labels u t given here);
       }
 
-  install_alike : (log other : List Entry) → AreAlike log other → (kind : Kind) (root : ℕ) (w v : Result Entry Refused) (x y : Option Refused) → x ≡ y →
-      InstallsUnless o (sight_after o log) kind root w x → InstallsUnless p (sight_after p other) kind root v y → AreAlike (with_entry log w) (with_entry other v)
-  install_alike log other is kind root w v (Some e) (Some f) same comes goes =
+  install_alike : (log other : List Entry) → AreAlike log other → (labels : Labelling) (kind : Kind) (w v : Result Entry Refused) (x y : Option Refused) → x ≡ y →
+      InstallsUnless o (sight_after o log) labels kind w x → InstallsUnless p (sight_after p other) labels kind v y → AreAlike (with_entry log w) (with_entry other v)
+  install_alike log other is labels kind w v (Some e) (Some f) same comes goes =
       subst (λ (z : Result Entry Refused). AreAlike (with_entry log z) (with_entry other v)) (sym comes) (subst (λ (z : Result Entry Refused). AreAlike log (with_entry other z)) (sym goes) is)
-  install_alike log other is kind root w v (Some e) None same comes goes = absurd (none-some e (sym same))
-  install_alike log other is kind root w v None (Some f) same comes goes = absurd (none-some f same)
-  install_alike log other is kind root w v None None same comes goes =
+  install_alike log other is labels kind w v (Some e) None same comes goes = absurd (none-some e (sym same))
+  install_alike log other is labels kind w v None (Some f) same comes goes = absurd (none-some f same)
+  install_alike log other is labels kind w v None None same comes goes =
       subst (λ (z : Result Entry Refused). AreAlike (with_entry log z) (with_entry other v)) (sym comes.2)
-      (subst (λ (z : Result Entry Refused). AreAlike (with_entry log (installs_made (sight_after o log) comes.0)) (with_entry other z)) (sym goes.2) (installed_alike log other is kind root comes.0 goes.0 comes.1 goes.1))
+      (subst (λ (z : Result Entry Refused). AreAlike (with_entry log (installs_made (sight_after o log) comes.0)) (with_entry other z)) (sym goes.2) (installed_alike log other is labels kind comes.0 goes.0 comes.1 goes.1))
+
+  made_alike : (log other later next : List Entry) → AreAlike log other → (labels theirs : Labelling) → labels ≡ theirs → (kind : Kind) (root : ℕ) (w v : Result Entry Refused) →
+      Installs o (sight_after o log) labels kind root w → Installs p (sight_after p other) theirs kind root v → later ≡ with_entry log w → next ≡ with_entry other v → AreAlike later next
+  made_alike log other later next is labels theirs by kind root w v comes goes went gone =
+      taken log other later next w v went gone
+      (install_alike log other is labels kind w v (install_refusal o (sight_after o log) root) (install_refusal p (sight_after p other) root) (refused_same log other is root) comes
+      (subst (λ (l : Labelling). Installs p (sight_after p other) l kind root v) (sym by) goes))
 
   -- a step that is passed over
   passed : (log other later next : List Entry) → AreAlike log other → later ≡ log → next ≡ other → AreAlike later next
@@ -153,8 +145,9 @@ module _ (o p : Setting) (over : o.topology ≡ p.topology) where
 
   step_alike : (log other later next : List Entry) → AreAlike log other → (x : Step) → IsControlled o log x later → IsControlled p other x next → AreAlike later next
   step_alike log other later next is (step.Event (event.Install kind root)) a b =
-      taken log other later next a.0 b.0 a.2 b.2
-      (install_alike log other is kind root a.0 b.0 (install_refusal o (sight_after o log) root) (install_refusal p (sight_after p other) root) (refused_same log other is root) a.1 b.1)
+      made_alike log other later next is _ _ (labels_same log other is kind root) kind root a.0 b.0 a.1 b.1 a.2 b.2
+  step_alike log other later next is (step.Event (event.Renumber kind root)) a b =
+      made_alike log other later next is _ _ (ap (λ (n : LabelOrder). FromRoot n root) order) kind root a.0 b.0 a.1 b.1 a.2 b.2
   step_alike log other later next is (step.Event (event.Retire f)) a b = retire_alike log other later next is f a b
   step_alike log other later next is (step.Event (event.Down l)) a b = mark_alike log other later next is l false a.0 b.0 a.1 b.1 a.2 b.2
   step_alike log other later next is (step.Event (event.Up l)) a b = mark_alike log other later next is l true a.0 b.0 a.1 b.1 a.2 b.2
@@ -173,9 +166,9 @@ module _ (o p : Setting) (over : o.topology ≡ p.topology) where
 
 -- ---- the installs of two such runs
 
--- two installs in one order of labels, of one kind and root, over the same links that are up
+-- two installs over the same links that are up, whose plans are of one kind and labelled alike
 abbrev IsSame : Topology → Install → Install → Type 0
-IsSame net i j = (i.labels ≡ j.labels) × (i.kind ≡ j.kind) × (i.root ≡ j.root) × (restrict i.up.items net ≡ restrict j.up.items net)
+IsSame net i j = (t : Plan) → IsPlanBy (restrict i.up.items net) i.kind (labelled_by i) t → IsPlanBy (restrict j.up.items net) j.kind (labelled_by j) t
 
 abbrev pub AreSame : Topology → List Install → List Install → Type 0
 AreSame net [] [] = Unit {0}
@@ -183,16 +176,15 @@ AreSame net [] (j ∷ others) = ⊥
 AreSame net (i ∷ installs) [] = ⊥
 AreSame net (i ∷ installs) (j ∷ others) = IsSame net i j × AreSame net installs others
 
-module _ (net : Topology) (o p : Setting) (first : o.topology ≡ net) (second : p.topology ≡ net) (order : o.labels ≡ p.labels) where
-  one_same : (i j : Install) (s t : Plan) → IsLike s t → IsBuiltFrom o i s → IsBuiltFrom p j t → IsSame net i j
-  one_same i j s t like a b = (
-    a.2 ∙ order ∙ sym b.2,
-    sym a.1.of_kind ∙ like.0 ∙ b.1.of_kind,
-    sym a.1.labelled.1 ∙ like.1 ∙ b.1.labelled.1,
-    ap (λ (n : Topology). restrict i.up.items n) (sym first) ∙ sym a.1.over ∙ like.2 ∙ b.1.over ∙ ap (λ (n : Topology). restrict j.up.items n) second,
-  )
+module _ (net : Topology) (o p : Setting) (first : o.topology ≡ net) (second : p.topology ≡ net) where
+  -- t is as s, which is as the plan of the other install
+  one_same : (i j : Install) (s u : Plan) → IsTwin u s → IsBuiltFrom o i s → IsBuiltFrom p j u → IsSame net i j
+  one_same i j s u twin a b t is =
+      let mine = subst (λ (n : Topology). IsPlanBy (restrict i.up.items n) i.kind (labelled_by i) s) first a.1 in
+      let theirs = subst (λ (n : Topology). IsPlanBy (restrict j.up.items n) j.kind (labelled_by j) u) second b.1 in
+      made_moved (restrict j.up.items net) j.kind (labelled_by j) u t (twin_next u s t twin (twins (restrict i.up.items net) i.kind (labelled_by i) s t mine is)) theirs
 
-  built_same : (ss ts : List Plan) (installs others : List Install) → AreLike ss ts → AreBuiltFrom o installs ss → AreBuiltFrom p others ts → AreSame net installs others
+  built_same : (ss ts : List Plan) (installs others : List Install) → AreTwins ss ts → AreBuiltFrom o installs ss → AreBuiltFrom p others ts → AreSame net installs others
   built_same [] [] [] [] like a b = tt
   built_same [] [] [] (j ∷ others) like a b = absurd b
   built_same [] [] (i ∷ installs) others like a b = absurd a
@@ -207,28 +199,21 @@ installs_same opening steps installs others a b =
     let o = a.setting in
     let p = b.setting in
     let over = a.opened.topology ∙ sym b.opened.topology in
-    let made = a.opened.first in
-    let given = b.opened.first in
-    let start : AreAlike o p over [] [] = record { boards = refl; plans = ((made.of_kind ∙ sym given.of_kind, made.labelled.1 ∙ sym given.labelled.1, made.over ∙ sym given.over), tt) } in
-    let alike = run_alike o p over steps [] [] a.log b.log start a.run b.run in
-    built_same opening.topology o p a.opened.topology b.opened.topology (a.opened.labels ∙ sym b.opened.labels) (history.plans o a.log) (history.plans p b.log) installs others alike.plans a.built b.built
+    let order = a.opened.labels ∙ sym b.opened.labels in
+    let keep = a.opened.keeps ∙ sym b.opened.keeps in
+    let twin = first_twins opening o p a.opened b.opened in
+    let start : AreAlike o p over order keep (sym twin.order) [] [] = record { boards = refl; plans = (twin, tt) } in
+    let alike = run_alike o p over order keep (sym twin.order) steps [] [] a.log b.log start a.run b.run in
+    built_same opening.topology o p a.opened.topology b.opened.topology (history.plans o a.log) (history.plans p b.log) installs others alike.plans a.built b.built
 
 -- ---- what is checked by them
-
-plan_moved : (net : Topology) (i j : Install) (t : Plan) → IsSame net i j → IsPlanBy (restrict i.up.items net) i.kind (FromRoot i.labels i.root) t → IsPlanBy (restrict j.up.items net) j.kind (FromRoot j.labels j.root) t
-plan_moved net i j t same is = record {
-  valid = is.valid;
-  over = is.over ∙ same.3;
-  of_kind = is.of_kind ∙ same.1;
-  labelled = (subst (λ (n : LabelOrder). IsLabelledBy n t) same.0 is.labelled.0, is.labelled.1 ∙ same.2);
-}
 
 pub plans_moved : (net : Topology) (installs others : List Install) (plans : List Plan) → AreSame net installs others → ArePlansOf net installs plans → ArePlansOf net others plans
 plans_moved net [] [] plans same are = are
 plans_moved net [] (j ∷ others) plans same are = absurd same
 plans_moved net (i ∷ installs) [] plans same are = absurd same
 plans_moved net (i ∷ installs) (j ∷ others) [] same are = absurd are
-plans_moved net (i ∷ installs) (j ∷ others) (t ∷ plans) same are = (plan_moved net i j t same.0 are.0, plans_moved net installs others plans same.1 are.1)
+plans_moved net (i ∷ installs) (j ∷ others) (t ∷ plans) same are = (same.0 t are.0, plans_moved net installs others plans same.1 are.1)
 
 -- two such lists have the same plans
 pub have_same_plans : (opening : Opening) (steps : List Step) (installs others : List Install) → AreInstallsOf opening steps installs → AreInstallsOf opening steps others → HaveSamePlans opening.topology installs others

@@ -3,7 +3,7 @@ use Rattle.std.specs.Prelude.{◌≡◌, ℕ, ◌+◌, List, [], ◌∷◌, ◌+
 use Rattle.std.proofs.Common.{refl, sym, ap, ◌∙◌, subst, append-nil, append_assoc, length-append}
 use Rattle.ir_core.specs.declared.event.Refused.{Refused}
 use Rattle.ir_core.specs.declared.command.Command.{Command}
-use Rattle.ir_core.specs.declared.command.Command.TheVariants.{Inject, Install, Retire, Down, Up, Avoid, Heed, Drain}
+use Rattle.ir_core.specs.declared.command.Command.TheVariants.{Inject, Install, Renumber, Retire, Down, Up, Avoid, Heed, Drain}
 use Rattle.ir_epochs.specs.declared.registry.Stamp.{Stamp}
 use Rattle.ir_epochs.specs.declared.entry.Change.{Change}
 use Rattle.ir_links.specs.Ends.{Word}
@@ -75,6 +75,9 @@ module _ (was_full : Word Parcel) {B : Type 0} where
   carried (Install kind root) before after (Ok None) is = absurd is
   carried (Install kind root) before after (Ok (Some s)) is = learnt before.injector after.injector s is.learnt
   carried (Install kind root) before after (Err why) is = unchanged before.injector after.injector is.0
+  carried (Renumber kind root) before after (Ok None) is = absurd is
+  carried (Renumber kind root) before after (Ok (Some s)) is = learnt before.injector after.injector s is.learnt
+  carried (Renumber kind root) before after (Err why) is = unchanged before.injector after.injector is.0
   carried (Retire floor) before after answer is = changed _ _ before after answer is
   carried (Down link) before after answer is = changed _ _ before after answer is
   carried (Up link) before after answer is = changed _ _ before after answer is
@@ -95,6 +98,9 @@ module _ (was_full : Word Parcel) {B : Type 0} where
     moved (Install kind root) a b (Ok None) is = absurd is
     moved (Install kind root) a b (Ok (Some s)) is = is.installs.publishes.opening
     moved (Install kind root) a b (Err why) is = is.1.nothing.opening
+    moved (Renumber kind root) a b (Ok None) is = absurd is
+    moved (Renumber kind root) a b (Ok (Some s)) is = is.installs.publishes.opening
+    moved (Renumber kind root) a b (Err why) is = is.1.nothing.opening
     moved (Retire floor) a b x is = changed_opening _ _ a b x is
     moved (Down link) a b x is = changed_opening _ _ a b x is
     moved (Up link) a b x is = changed_opening _ _ a b x is

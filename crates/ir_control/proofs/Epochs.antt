@@ -7,7 +7,7 @@ use Rattle.std.proofs.lemmas.Option.{same_Some, none-some}
 use Rattle.std.proofs.Math.Logic.{∥∥₁_elim, ∥∥₁_prop}
 use Rattle.ir_core.specs.declared.packet.Restamp.{Restamp}
 use Rattle.ir_core.specs.declared.command.Command.{Command}
-use Rattle.ir_core.specs.declared.command.Command.TheVariants.{Inject, Install, Retire, Down, Up, Avoid, Heed, Drain}
+use Rattle.ir_core.specs.declared.command.Command.TheVariants.{Inject, Install, Renumber, Retire, Down, Up, Avoid, Heed, Drain}
 use Rattle.ir_core.specs.Record.{Record, segments, segments_in, until}
 use Rattle.ir_core.specs.Sound.{IsSoundBy, IsSoundRecord}
 use Rattle.ir_epochs.specs.declared.registry.Stamp.{Stamp}
@@ -81,6 +81,7 @@ module _ (whole : List Stamp) where
   entered id epoch (Inject source dest) (Ok installed) there = (there, tt)
   entered id epoch (Inject source dest) (Err why) there = tt
   entered id epoch (Install kind root) x there = tt
+  entered id epoch (Renumber kind root) x there = tt
   entered id epoch (Retire floor) x there = tt
   entered id epoch (Down link) x there = tt
   entered id epoch (Up link) x there = tt

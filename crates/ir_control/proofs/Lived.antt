@@ -85,14 +85,14 @@ module _ (was_full was_empty : Word Parcel) (looked : Look Parcel) (may_end : �
   came : AreSameNodes nodes back
   came = same_back net (node_count net.topology) was_full was_empty looked may_end nodes run.back.items fresh.nodes_are done.came_back
 
-  stands : Stands net opened.controller (all_marked (length net.topology.links)) 1 opened.controller
+  stands : Stands net opened.controller (all_marked (length net.topology.links) (first_plan net).order) 1 opened.controller
   stands = stands_first net nodes opened fresh
 
   pub boards_back : All (λ n. reader_board n.reader ≡ writer_board run.parts.controller.writer) (map (λ (b : Node × Option NoMemory). b.0) run.back.items)
   boards_back k d lt =
       let count = came.count in
       (came.each k d d (omega (arith, lt, count))).reader ∙ fresh.boards k d (omega (arith, lt, count))
-      ∙ sym (same_board net opened.controller was_full commands (all_marked (length net.topology.links)) 1 opened (desk_of run.parts) done.answers done.carried_out stands)
+      ∙ sym (same_board net opened.controller was_full commands (all_marked (length net.topology.links) (first_plan net).order) 1 opened (desk_of run.parts) done.answers done.carried_out stands)
 
   abbrev whole : List Stamp
   whole = net.opening ∷ stamps_in done.answers
@@ -101,7 +101,7 @@ module _ (was_full was_empty : Word Parcel) (looked : Look Parcel) (may_end : �
   stamps_of_net = subst (AreOfOne net.opening) (sym done.stamps)
       (All-append (λ t. registry_name t ≡ registry_name net.opening) (net.opening ∷ []) (stamps_in done.answers)
       (All-push (λ t. registry_name t ≡ registry_name net.opening) [] net.opening (All-nil (λ t. registry_name t ≡ registry_name net.opening)) refl)
-      (stamps_of_one net opened.controller was_full commands (all_marked (length net.topology.links)) 1 opened (desk_of run.parts) done.answers done.carried_out stands))
+      (stamps_of_one net opened.controller was_full commands (all_marked (length net.topology.links) (first_plan net).order) 1 opened (desk_of run.parts) done.answers done.carried_out stands))
 
   abbrev beside : ℕ → Bool
   beside e = not (among whole e)
@@ -172,7 +172,7 @@ module _ (was_full was_empty : Word Parcel) (looked : Look Parcel) (may_end : �
           sound = record {
             plans = planned whole;
             plans_are = ap (λ (e : ℕ). let p : Planned = record { epoch = e; plan = first_plan net } in p ∷ planned (stamps_in done.answers)) net.opened.epoch;
-            asked = all_asked net opened.controller was_full commands (all_marked (length net.topology.links)) 1 opened (desk_of run.parts) done.answers done.carried_out stands;
+            asked = all_asked net opened.controller was_full commands (all_marked (length net.topology.links) (first_plan net).order) 1 opened (desk_of run.parts) done.answers done.carried_out stands;
             sound = sound;
           };
         }

@@ -2,7 +2,7 @@
 use Rattle.std.specs.Prelude.{ℕ, ◌+◌, List, [], ◌∷◌, ◌++◌, Option, Some, None, Result, Ok, Err, length, nat_lt, cond}
 use Rattle.ir_core.specs.declared.event.Refused.{Refused}
 use Rattle.ir_core.specs.declared.command.Command.{Command}
-use Rattle.ir_core.specs.declared.command.Command.TheVariants.{Inject, Install, Retire, Down, Up, Avoid, Heed, Drain}
+use Rattle.ir_core.specs.declared.command.Command.TheVariants.{Inject, Install, Renumber, Retire, Down, Up, Avoid, Heed, Drain}
 use Rattle.ir_epochs.specs.declared.registry.Stamp.{Stamp}
 use Rattle.ir_control.specs.declared.injector.Accepted.{Accepted}
 
@@ -41,6 +41,7 @@ abbrev pub accepted_by : ℕ → ℕ → Command → CommandAnswer → List Acce
 accepted_by id epoch (Inject source dest) (Ok installed) = record { id = id; epoch = epoch; source = source; dest = dest } ∷ []
 accepted_by id epoch (Inject source dest) (Err why) = []
 accepted_by id epoch (Install kind root) answer = []
+accepted_by id epoch (Renumber kind root) answer = []
 accepted_by id epoch (Retire floor) answer = []
 accepted_by id epoch (Down link) answer = []
 accepted_by id epoch (Up link) answer = []

@@ -1,10 +1,10 @@
 -- What commands do with an injector and a controller of one net.
-use Rattle.std.specs.Prelude.{◌≡◌, ℕ, ◌∷◌, [], true, false, List, Option, Some, None, Ok, Err, length}
+use Rattle.std.specs.Prelude.{◌≡◌, ℕ, Bool, ◌∷◌, [], true, false, List, Option, Some, None, Ok, Err, length}
 use Rattle.ir_model.specs.declared.Kind.{Kind}
 use Rattle.ir_core.specs.declared.board.Board.{Board}
 use Rattle.ir_core.specs.declared.event.Refused.{Refused}
 use Rattle.ir_core.specs.declared.command.Command.{Command}
-use Rattle.ir_core.specs.declared.command.Command.TheVariants.{Inject, Install, Retire, Down, Up, Avoid, Heed, Drain}
+use Rattle.ir_core.specs.declared.command.Command.TheVariants.{Inject, Install, Renumber, Retire, Down, Up, Avoid, Heed, Drain}
 use Rattle.ir_core.specs.Refusals.{retire_refused, mark_refused, heed_refused}
 use Rattle.ir_epochs.specs.declared.handles.Receipt.{Receipt}
 use Rattle.ir_epochs.specs.declared.entry.Change.{Change}
@@ -47,9 +47,9 @@ pub record HasLearnt (before after : Injector) (s : Stamp) : Type 0 where
 
 module _ {B : Type 0} where
   -- An epoch was installed, whose stamp is this one, and the injector has learnt of it.
-  pub record InstallsAndLearns (before after : Desk B) (kind : Kind) (root : ℕ) (s : Stamp) : Type 0 where
+  pub record InstallsAndLearns (before after : Desk B) (keeps : Bool) (kind : Kind) (root : ℕ) (s : Stamp) : Type 0 where
     pub receipt : Receipt
-    pub installs : Installs kind root before.controller after.controller receipt
+    pub installs : Installs keeps kind root before.controller after.controller receipt
     pub stamp_is : installs.stamp ≡ s
     pub learnt : HasLearnt before.injector after.injector s
 
@@ -68,11 +68,11 @@ module _ {B : Type 0} where
   abbrev pub desk_board : Desk B → Board
   desk_board d = board_of (published d.controller.writer)
 
-  -- what comes of an install
-  abbrev pub IsInstalledAs : Kind → ℕ → Desk B → CommandAnswer → Desk B → Type 0
-  IsInstalledAs kind root before (Ok None) after = ⊥
-  IsInstalledAs kind root before (Ok (Some s)) after = InstallsAndLearns before after kind root s
-  IsInstalledAs kind root before (Err why) after =
+  -- what comes of an install, where the current epoch's order is kept or is not
+  abbrev pub IsInstalledAs : Bool → Kind → ℕ → Desk B → CommandAnswer → Desk B → Type 0
+  IsInstalledAs keeps kind root before (Ok None) after = ⊥
+  IsInstalledAs keeps kind root before (Ok (Some s)) after = InstallsAndLearns before after keeps kind root s
+  IsInstalledAs keeps kind root before (Err why) after =
       (after.injector ≡ before.injector) × IsNoInstall root before.controller after.controller why
 
 module _ (was_full : Word Parcel) {B : Type 0} where
@@ -80,7 +80,8 @@ module _ (was_full : Word Parcel) {B : Type 0} where
   abbrev pub IsCarriedOut : Command → Desk B → CommandAnswer → Desk B → Type 0
   IsCarriedOut (Inject source dest) before answer after =
       IsInjectedAs was_full source dest before.injector answer after.injector × IsSameInjector before.injector after.injector × (after.injector.newest ≡ before.injector.newest) × (after.controller ≡ before.controller)
-  IsCarriedOut (Install kind root) before answer after = IsInstalledAs kind root before answer after
+  IsCarriedOut (Install kind root) before answer after = IsInstalledAs before.controller.keeps kind root before answer after
+  IsCarriedOut (Renumber kind root) before answer after = IsInstalledAs false kind root before answer after
   IsCarriedOut (Retire floor) before answer after = IsChangedAs (retire_refused (desk_board before) floor) (change.Retire floor) before answer after
   IsCarriedOut (Down link) before answer after = IsChangedAs (mark_refused (desk_links before) (desk_board before) link false) (change.Down link) before answer after
   IsCarriedOut (Up link) before answer after = IsChangedAs (mark_refused (desk_links before) (desk_board before) link true) (change.Up link) before answer after

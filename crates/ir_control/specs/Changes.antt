@@ -10,6 +10,8 @@ use Rattle.ir_core.specs.declared.event.Refused.TheVariants.{Disconnected, NoMem
 use Rattle.ir_core.specs.declared.board.Board.{Board}
 use Rattle.ir_core.specs.Refusals.{install_refused, retire_refused, mark_refused, heed_refused}
 use Rattle.ir_core.specs.Board.{links_used}
+use Rattle.ir_plan.specs.Building.{Labelling}
+use Rattle.ir_core.specs.Drafts.{order_kept, labelling_by}
 use Rattle.ir_core.specs.Meaning.{IsMade}
 use Rattle.ir_epochs.specs.declared.registry.Stamp.{Stamp}
 use Rattle.ir_epochs.specs.declared.handles.Receipt.{Receipt}
@@ -18,10 +20,15 @@ use Rattle.ir_epochs.specs.declared.entry.Change.TheVariants.{Install}
 use Rattle.ir_epochs.specs.declared.entry.Entry.{Entry}
 use Rattle.ir_epochs.specs.declared.entry.Entry.TheVariants.{Changed}
 use Rattle.ir_epochs.specs.Stamps.{IsOf, knows}
-use Rattle.ir_epochs.specs.Entries.{board_of}
+use Rattle.ir_epochs.specs.Entries.{board_of, installed_stamp}
 use Rattle.ir_epochs.specs.Handles.{published, writer_board, reader_board, told, receipt_board}
 use Rattle.ir_worker.specs.declared.node.Node.{Node}
 use Rattle.ir_control.specs.declared.controller.Controller.{Controller}
+
+-- the nodes by label in the plan that a stamp knows
+abbrev pub order_of : Option Stamp → List ℕ
+order_of None = []
+order_of (Some s) = (knows s).order
 
 abbrev pub IsRefusedBy : Refused → Option Refused → Type 0
 IsRefusedBy error (Some e) = error ≡ e
@@ -59,6 +66,7 @@ module _ {R : Type 0} where
     pub opening : after.opening ≡ before.opening
     pub registry : after.registry ≡ before.registry
     pub labels : after.labels ≡ before.labels
+    pub keeps : after.keeps ≡ before.keeps
 
   -- nothing was published
   pub record PublishesNothing (before after : Controller R) : Type 0 where
@@ -67,6 +75,7 @@ module _ {R : Type 0} where
     pub opening : after.opening ≡ before.opening
     pub registry : after.registry ≡ before.registry
     pub labels : after.labels ≡ before.labels
+    pub keeps : after.keeps ≡ before.keeps
 
   -- the change was published and not refused; or the first refusal, or else want of memory, and nothing was published
   abbrev pub IsChangeAnswer : Option Refused → Change → Controller R → Controller R → Result Receipt Refused → Type 0
@@ -85,20 +94,28 @@ module _ {R : Type 0} where
   IsInstallRefusedBy c error (Some e) = error ≡ e
   IsInstallRefusedBy c error None = ((error ≡ Disconnected) × IsDisconnected (topology_up c)) ⊎ ((error ≡ NoMemory) ⊎ (error ≡ Used))
 
-  -- a plan of this kind and root over the links that are up and heeded, labelled in the controller's order; or why there is none
-  abbrev pub IsPlanAnswer : Kind → ℕ → Controller R → Result Plan Refused → Type 0
-  IsPlanAnswer kind root c answer = MatchResult answer
-      (λ plan. IsMade c.labels kind root (topology_up c) (Some plan))
+  -- the nodes by label in the current epoch
+  abbrev pub current_order : Controller R → List ℕ
+  current_order c = order_of (installed_stamp (published c.writer))
+
+  -- by what the next plan is labelled, where the current epoch's order is kept or is not
+  abbrev pub labelling_next : Controller R → Bool → Kind → ℕ → Labelling
+  labelling_next c keeps kind root = labelling_by c.labels root (order_kept keeps kind (current_order c))
+
+  -- a plan of this kind over the links that are up and heeded, labelled so; or why there is none
+  abbrev pub IsPlanAnswer : Bool → Kind → ℕ → Controller R → Result Plan Refused → Type 0
+  IsPlanAnswer keeps kind root c answer = MatchResult answer
+      (λ plan. IsMade (labelling_next c keeps kind root) kind (topology_up c) (Some plan))
       (λ e. ((e ≡ Disconnected) × IsDisconnected (topology_up c)) ⊎ (e ≡ NoMemory))
 
-  -- The stamp of the next cell, which knows a plan of this kind and root over the links that were up and heeded,
-  -- labelled in the controller's order, was installed.
-  pub record Installs (kind : Kind) (root : ℕ) (before after : Controller R) (t : Receipt) : Type 0 where
+  -- The stamp of the next cell, which knows a plan of this kind over the links that were up and heeded, labelled as the
+  -- current epoch where its order is kept, else in the controller's order from the root, was installed.
+  pub record Installs (keeps : Bool) (kind : Kind) (root : ℕ) (before after : Controller R) (t : Receipt) : Type 0 where
     pub allowed : install_refusal before root ≡ None
     pub stamp : Stamp
     pub epoch : stamp.epoch ≡ before.used + 1
     pub registered : IsOf (arc_value before.registry) stamp
-    pub plan : IsMade before.labels kind root (topology_up before) (Some (knows stamp))
+    pub plan : IsMade (labelling_next before keeps kind root) kind (topology_up before) (Some (knows stamp))
     pub publishes : Publishes before after (Install stamp) t
     pub used : after.used ≡ before.used + 1
 
@@ -109,5 +126,5 @@ module _ {R : Type 0} where
     pub used : (after.used ≡ before.used) ⊎ ((after.used ≡ before.used + 1) × ((e ≡ NoMemory) ⊎ (e ≡ Used)))
     pub cell : e ≡ Used → after.used ≡ before.used + 1
 
-  abbrev pub IsInstallAnswer : Kind → ℕ → Controller R → Controller R → Result Receipt Refused → Type 0
-  IsInstallAnswer kind root before after answer = MatchResult answer (λ t. Installs kind root before after t) (λ e. IsNoInstall root before after e)
+  abbrev pub IsInstallAnswer : Bool → Kind → ℕ → Controller R → Controller R → Result Receipt Refused → Type 0
+  IsInstallAnswer keeps kind root before after answer = MatchResult answer (λ t. Installs keeps kind root before after t) (λ e. IsNoInstall root before after e)

@@ -105,10 +105,11 @@ pub record AreSoundByPlans (net : Net) (commands : List Command) (answers : List
   pub plans : List Planned
   pub plans_are :
       plans ≡ record { epoch = 1; plan = first_plan net } ∷ planned (stamps_in answers)
-  -- its plan is of the kind and root that were asked for, over the links that were up and
-  -- heeded then, in the net's order of labels; at first all are
-  pub asked : AreAsked net.labels net.topology (all_marked (length net.topology.links)) 1 commands
-      answers
+  -- its plan is of the kind that was asked for, over the links that were up and heeded then,
+  -- labelled in the net's order from the root, or as the epoch before, where the net keeps that; at
+  -- first all links are up and heeded
+  pub asked : AreAsked net.labels net.keeps net.topology
+      (all_marked (length net.topology.links) (first_plan net).order) 1 commands answers
   pub sound : All (λ r. ∥ IsSoundRecord net.restamps (IsPlanIn plans) r ∥₁) records
 
 -- A live run of a net. The words record refused pushes and pops, looks at the board, and after how

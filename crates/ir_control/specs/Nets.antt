@@ -3,6 +3,7 @@ use Rattle.std.specs.Prelude.{◌≡◌, Some}
 use Rattle.std.specs.Arc.{arc_value}
 use Rattle.ir_model.specs.Plan.{Plan}
 use Rattle.ir_core.specs.declared.opening.Opening.{Opening}
+use Rattle.ir_plan.specs.Building.{FromRoot}
 use Rattle.ir_core.specs.Meaning.{IsMade}
 use Rattle.ir_epochs.specs.declared.registry.Registry.{Registry}
 use Rattle.ir_epochs.specs.declared.registry.Stamp.{Stamp}
@@ -24,7 +25,8 @@ first_stamp net = net.opening
 pub record IsNetFor (opening : Opening) (net : Net) : Type 0 where
   pub topology : net.topology ≡ opening.topology
   pub labels : net.labels ≡ opening.labels
-  pub first : IsMade opening.labels opening.kind opening.root opening.topology (Some (first_plan net))
+  pub keeps : net.keeps ≡ opening.keeps
+  pub first : IsMade (FromRoot opening.labels opening.root) opening.kind opening.topology (Some (first_plan net))
   pub capacity : net.capacity ≡ opening.capacity
   pub max_packets : net.max_packets ≡ opening.max_packets
   pub restamps : net.restamps ≡ opening.restamps

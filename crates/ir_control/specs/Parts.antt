@@ -77,6 +77,7 @@ pub record AreFreshParts {R : Type 0} (net : Net) (nodes : List Node) (injector 
   pub learnt : injector.newest ≡ net.opening
   pub controller_opening : controller.opening ≡ net.opening
   pub controller_labels : controller.labels ≡ net.labels
+  pub controller_keeps : controller.keeps ≡ net.keeps
   pub controller_registry : arc_value controller.registry ≡ arc_value net.registry
   pub used : controller.used ≡ 1
   pub board : published controller.writer ≡ opening_entries net

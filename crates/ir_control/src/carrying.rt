@@ -23,17 +23,18 @@ fn answered(refusal: Option<Refused>) -> Result<Option<Stamp>, Refused>
     }
 }
 
-// Installs an epoch, of which the injector learns at once.
+// Installs an epoch, where the current one's order is kept or is not, of which the injector learns at once.
 fn install<R: Threads + Sync, B: Wait + Drop>(
     rt: &R,
     parts: &mut Parts<B>,
+    keeps: bool,
     kind: Kind,
     root: u16,
 ) -> Result<Option<Stamp>, Refused>
     requires { parts.old.controller.opening ≡ parts.old.injector.opening }
-    ensures { IsInstalledAs kind root (desk_of parts.old) result (desk_of parts.new) }
+    ensures { IsInstalledAs keeps kind root (desk_of parts.old) result (desk_of parts.new) }
 {
-    match parts.controller.install(rt, kind, root) {
+    match parts.controller.install_as(rt, keeps, kind, root) {
         Ok(receipt) => {
             parts.injector.learn(&receipt);
             match receipt.stamp() {
@@ -61,7 +62,11 @@ fn carry_out<R: Threads + Moments<Parcel> + Sync, B: Wait + Drop>(
             bells.ring(source);
             answered(refusal)
         }
-        Command::Install(kind, root) => install(rt, parts, kind, root),
+        Command::Install(kind, root) => {
+            let keeps = parts.controller.keeps;
+            install(rt, parts, keeps, kind, root)
+        }
+        Command::Renumber(kind, root) => install(rt, parts, false, kind, root),
         Command::Retire(floor) => answered(parts.controller.retire(floor).err()),
         Command::Down(link) => answered(parts.controller.down(link).err()),
         Command::Up(link) => answered(parts.controller.up(link).err()),

@@ -10,7 +10,7 @@ ghost use Rattle.ir_epochs.specs.declared.entry.Entry.TheVariants.{Opened, Chang
 ghost use Rattle.ir_epochs.specs.Handles.{published, known, writer_board, reader_board, told, receipt_board};
 ghost use mathlib.Core.List.{IsPrefix};
 
-use ir_core::{Board, Draft, Refused, plan_up_by};
+use ir_core::{Board, Draft, Refused, order_kept, plan_up_by};
 use ir_epochs::{BoardWriter, Change, Receipt, RegisterError, Registry, Stamp};
 use ir_model::Kind;
 use ir_plan::{LabelOrder, Plan, Several};
@@ -27,6 +27,7 @@ pub struct Controller<R: Wait + Drop> {
     pub(crate) registry: Arc<Registry, Global>,
     pub(crate) opening: Stamp,
     pub(crate) labels: LabelOrder,
+    pub(crate) keeps: bool,
     pub(crate) writer: BoardWriter<R>,
     pub(crate) used: u32,
     ghost of_registry: { IsOf (arc_value registry) opening },
@@ -40,9 +41,11 @@ pub struct Controller<R: Wait + Drop> {
 impl<R: Wait + Drop> Controller<R> {
     ghost use Rattle.ir_control.specs.Changes.{published_by, newest_board, IsReadBy, retiring_refused, marking_refused, heeding_refused};
     ghost use Rattle.ir_worker.specs.Same.{known_to};
-    ghost use Rattle.ir_control.specs.Changes.{install_refusal, IsChangeAnswer, IsInstallAnswer, IsPlanAnswer};
+    ghost use Rattle.ir_control.specs.Changes.{current_order, install_refusal, IsChangeAnswer, IsInstallAnswer, IsPlanAnswer};
+    ghost use Rattle.ir_core.specs.Drafts.{items_of, labelling_by, order_kept};
+    ghost use Rattle.ir_plan.specs.{declared.tour.LabelOrder.LabelOrder, Building.MayLabel};
     ghost use Rattle.ir_epochs.specs.declared.entry.Change.TheVariants.{Retire, Down, Up, Avoid, Heed};
-    ghost use Rattle.std.specs.Prelude.{◌↔◌, IsTrue, true, false};
+    ghost use Rattle.std.specs.Prelude.{◌↔◌, ℕ, IsTrue, true, false};
 
     /// The board as it is.
     pub fn board(&self) -> Board
@@ -164,23 +167,52 @@ impl<R: Wait + Drop> Controller<R> {
             .install_refusal(topology.nodes(), self.used as usize, root)
     }
 
-    // The plan of this kind and root over the links that are up and heeded.
-    fn plan(&self, rt: &(impl Threads + Sync), kind: Kind, root: u16) -> Result<Plan, Refused>
+    // The nodes by label that the next plan of a kind keeps, where orders are kept.
+    fn order_kept(&self, keeps: bool, kind: Kind) -> Result<Option<Vec<u16>>, Refused>
+        ensures kept { IfOk result (λ kept. items_of kept ≡ order_kept keeps kind (current_order self.now)) }
+        ensures may { IfOk result (λ kept. (labels : LabelOrder) (root : ℕ)
+            → MayLabel (knows self.now.opening).topology kind (labelling_by labels root (items_of kept))) }
+        ensures refused { IfErr result (λ e. e ≡ Refused.NoMemory) }
+    {
+        let stamp = self.writer.stamp();
+        let current = self.registry.plan(&stamp);
+        current.invariant();
+        match order_kept(self.alloc, keeps, kind, current) {
+            Ok(kept) => Ok(kept),
+            Err(_) => Err(Refused::NoMemory),
+        }
+    }
+
+    // The plan of this kind and root over the links that are up and heeded, where the current epoch's order is
+    // kept or is not.
+    fn plan(
+        &self,
+        rt: &(impl Threads + Sync),
+        keeps: bool,
+        kind: Kind,
+        root: u16,
+    ) -> Result<Plan, Refused>
         requires { root < node_count (knows self.now.opening).topology }
-        ensures answer { IsPlanAnswer kind root self.now result }
+        ensures answer { IsPlanAnswer keeps kind root self.now result }
         ensures number { IfErr result (λ e. 0 < install_number e) }
     {
+        let kept = self.order_kept(keeps, kind)?;
         let topology = self.registry.plan(&self.opening).topology();
         let board = self.writer.board();
         let crew = Several { rt, most: None };
-        let labels = self.labels;
-        let draft = Draft { labels, kind, root };
+        let draft = Draft {
+            labels: self.labels,
+            kind,
+            root,
+            kept,
+        };
         let plan = plan_up_by(&crew, self.alloc, topology, &board, draft)?;
         Ok(plan)
     }
 
-    /// Builds a plan of this kind and root over the links that are up and heeded, labelled in the net's order, registers
-    /// it in the next cell, and makes it the current epoch. The receipt's stamp knows that plan.
+    /// Builds a plan of this kind and root over the links that are up and heeded, labelled in the net's order or, where
+    /// the net keeps it, in that of the current epoch. Registers it in the next cell, and makes it the current epoch. The
+    /// receipt's stamp knows that plan.
     ///
     /// Refused are, in this order: a root that is no node, no cell left, a change too many, some node without a walk to
     /// some node, want of memory. After `Used`, or after want of memory once the plan was registered, the cell is used
@@ -191,13 +223,41 @@ impl<R: Wait + Drop> Controller<R> {
         kind: Kind,
         root: u16,
     ) -> Result<Receipt, Refused>
-        ensures answer { IsInstallAnswer kind root self.old self.new result }
+        ensures answer { IsInstallAnswer self.old.keeps kind root self.old self.new result }
+        ensures number { IfErr result (λ e. 0 < install_number e) }
+    {
+        let keeps = self.keeps;
+        self.install_as(rt, keeps, kind, root)
+    }
+
+    /// As `install`, but that the plan is labelled in the net's order, from the root. Refused as that is.
+    pub fn renumber(
+        &mut self,
+        rt: &(impl Threads + Sync),
+        kind: Kind,
+        root: u16,
+    ) -> Result<Receipt, Refused>
+        ensures answer { IsInstallAnswer false kind root self.old self.new result }
+        ensures number { IfErr result (λ e. 0 < install_number e) }
+    {
+        self.install_as(rt, false, kind, root)
+    }
+
+    // Installs a plan, where the current epoch's order is kept or is not.
+    pub(crate) fn install_as(
+        &mut self,
+        rt: &(impl Threads + Sync),
+        keeps: bool,
+        kind: Kind,
+        root: u16,
+    ) -> Result<Receipt, Refused>
+        ensures answer { IsInstallAnswer keeps kind root self.old self.new result }
         ensures number { IfErr result (λ e. 0 < install_number e) }
     {
         if let Some(error) = self.install_refusal(root) {
             return Err(error);
         }
-        let plan = match self.plan(rt, kind, root) {
+        let plan = match self.plan(rt, keeps, kind, root) {
             Ok(plan) => plan,
             Err(error) => return Err(error),
         };

@@ -1,6 +1,7 @@
 //! A net: its registry, its channels, and what its parts are made of.
 ghost use Rattle.std.specs.{Prelude.{◌≡◌, ◌⊎◌, ◌<◌, ◌≤◌, IfOk, IfErr, None, Some, length}, Arc.arc_value};
 ghost use Rattle.ir_model.specs.{Topology.node_count, Walk.IsDisconnected};
+ghost use Rattle.ir_plan.specs.Building.{FromRoot};
 ghost use Rattle.ir_core.specs.{Meaning.IsMade, declared.TheConstants.{MAX_PACKETS, MAX_RESTAMPS}, Opened.open_refused};
 ghost use Rattle.ir_control.specs.{Places.offset, Opened.IsNetRefusal};
 ghost use Rattle.ir_control.specs.Wired.{AreInboxes, AreWiredWays, AreOffsets, IsOpening};
@@ -40,6 +41,7 @@ pub struct Net {
     registry: Arc<Registry, Global>,
     pub(crate) topology: Topology,
     labels: LabelOrder,
+    pub(crate) keeps: bool,
     pub(crate) capacity: usize,
     max_packets: usize,
     pub(crate) restamps: u8,
@@ -65,7 +67,7 @@ fn opening_plan(
     opening: &Opening,
 ) -> Result<Plan, OpenError>
     requires { opening.now.root < node_count opening.now.topology }
-    ensures made { IfOk result (λ plan. IsMade opening.now.labels opening.now.kind opening.now.root
+    ensures made { IfOk result (λ plan. IsMade (FromRoot opening.now.labels opening.now.root) opening.now.kind
         opening.now.topology (Some plan)) }
     ensures refused { IfErr result
         (λ e. ((e ≡ OpenError.Disconnected) × IsDisconnected opening.now.topology)
@@ -79,6 +81,7 @@ fn opening_plan(
         labels: opening.labels,
         kind: opening.kind,
         root: opening.root,
+        kept: None,
     };
     let plan = plan_over_by(&crew, alloc, over, draft)?;
     Ok(plan)
@@ -92,7 +95,7 @@ fn registered(
 ) -> Result<(Registry, Stamp), OpenError>
     requires { opening.now.root < node_count opening.now.topology }
     ensures made { IfOk result (λ r. IsOf r.0 r.1 × (r.1.epoch ≡ 1)
-        × IsMade opening.now.labels opening.now.kind opening.now.root opening.now.topology (Some (knows r.1))) }
+        × IsMade (FromRoot opening.now.labels opening.now.root) opening.now.kind opening.now.topology (Some (knows r.1))) }
     ensures refused { IfErr result
         (λ e. ((e ≡ OpenError.Disconnected) × IsDisconnected opening.now.topology)
         ⊎ ((e ≡ OpenError.NoMemory) ⊎ (e ≡ OpenError.Used))) }
@@ -188,7 +191,7 @@ impl Net {
         requires packets { opening.max_packets ≤ MAX_PACKETS }
         requires restamps { opening.restamps ≤ MAX_RESTAMPS }
         ensures topology { IfOk result (λ net. net.topology ≡ opening.topology) }
-        ensures labels { IfOk result (λ net. net.labels ≡ opening.labels) }
+        ensures labels { IfOk result (λ net. (net.labels ≡ opening.labels) × (net.keeps ≡ opening.keeps)) }
         ensures opening { IfOk result (λ net. net.opening ≡ first) }
         ensures numbers { IfOk result (λ net. (net.capacity ≡ opening.capacity)
             × (net.max_packets ≡ opening.max_packets) × (net.restamps ≡ opening.restamps)) }
@@ -210,6 +213,7 @@ impl Net {
             registry,
             topology: opening.topology,
             labels: opening.labels,
+            keeps: opening.keeps,
             capacity: opening.capacity,
             max_packets: opening.max_packets,
             restamps: opening.restamps,
@@ -444,6 +448,7 @@ impl Net {
             registry: Arc::try_clone(&self.registry)?,
             opening: self.opening.again(),
             labels: self.labels,
+            keeps: self.keeps,
             writer,
             used: 1,
         };

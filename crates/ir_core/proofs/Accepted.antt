@@ -4,6 +4,7 @@ use Rattle.std.proofs.lemmas.Grind.{common_steps}
 use Rattle.std.proofs.lemmas.List.{get_or_default}
 use Rattle.ir_model.specs.declared.Kind.{Kind}
 use Rattle.ir_model.specs.Plan.{Plan}
+use Rattle.ir_plan.specs.Building.{Labelling, FromRoot}
 use Rattle.ir_core.specs.declared.event.Way.{Way}
 use Rattle.ir_core.specs.declared.event.Way.TheVariants.{Link}
 use Rattle.ir_core.specs.declared.event.Event.{Event}
@@ -20,7 +21,7 @@ use Rattle.ir_core.specs.declared.board.Board.{Board}
 use Rattle.ir_core.specs.Board.{marked, heeding, retired_below, installed}
 use Rattle.ir_core.specs.Refusals.{retire_refused, mark_refused, heed_refused}
 use Rattle.ir_core.specs.Entry.{Entry, DidInject, DidLearn, DidTake, DidRead, DidAct, DidChange, DidInstall, fresh}
-use Rattle.ir_core.specs.Meaning.{newest, takes_from, takes_first, acts_on, installs_made, unless, install_refusal, InstallsUnless, ComesTo, record_at, ruling_on, is_full_towards}
+use Rattle.ir_core.specs.Meaning.{newest, takes_from, takes_first, acts_on, installs_made, unless, install_refusal, labelling_next, InstallsUnless, ComesTo, record_at, ruling_on, is_full_towards}
 use Rattle.ir_core.specs.World.{World, IsWorld, sight_in, LeadsIn}
 use Rattle.ir_core.proofs.Refusals.{source_in}
 use Rattle.ir_core.proofs.Channels.{channel_within, into_is}
@@ -88,9 +89,9 @@ made_fits s entry None e = absurd (not_accepted Disconnected entry (sym e))
 made_fits s entry (Some t) e =
     subst (λ (k : Entry). Fits s k) (same_entry (DidInstall (length s.plans + 1) t (installed (newest (sight_in s)) (length s.plans + 1))) entry (sym e)) tt
 
-install_fits : (s : World) (kind : Kind) (root : ℕ) (entry : Entry) (x : Option Refused) → InstallsUnless s.opening (sight_in s) kind root (Ok entry) x → Fits s entry
-install_fits s kind root entry (Some refused) e = absurd (not_accepted refused entry (sym e))
-install_fits s kind root entry None e = made_fits s entry e.0 e.2
+install_fits : (s : World) (labels : Labelling) (kind : Kind) (entry : Entry) (x : Option Refused) → InstallsUnless s.opening (sight_in s) labels kind (Ok entry) x → Fits s entry
+install_fits s labels kind entry (Some refused) e = absurd (not_accepted refused entry (sym e))
+install_fits s labels kind entry None e = made_fits s entry e.0 e.2
 
 change_fits : (s : World) (x : Option Refused) (b : Board) (entry : Entry) → Ok entry ≡ unless x (Ok (DidChange b)) → Fits s entry
 change_fits s x b entry e = subst (λ (k : Entry). Fits s k) (same_entry (DidChange b) entry (let_through x (Ok (DidChange b)) entry (sym e)).1) tt
@@ -124,4 +125,5 @@ accepted_fits s ok (event.Down l) entry e = change_fits s (mark_refused (links_o
 accepted_fits s ok (event.Up l) entry e = change_fits s (mark_refused (links_of s.opening) (newest (sight_in s)) l true) (marked (newest (sight_in s)) l true) entry e
 accepted_fits s ok (event.Avoid l) entry e = change_fits s (heed_refused (links_of s.opening) (newest (sight_in s)) l false) (heeding (newest (sight_in s)) l false) entry e
 accepted_fits s ok (event.Heed l) entry e = change_fits s (heed_refused (links_of s.opening) (newest (sight_in s)) l true) (heeding (newest (sight_in s)) l true) entry e
-accepted_fits s ok (event.Install kind root) entry e = install_fits s kind root entry (install_refusal s.opening (sight_in s) root) e
+accepted_fits s ok (event.Install kind root) entry e = install_fits s (labelling_next s.opening (sight_in s) kind root) kind entry (install_refusal s.opening (sight_in s) root) e
+accepted_fits s ok (event.Renumber kind root) entry e = install_fits s (FromRoot s.opening.labels root) kind entry (install_refusal s.opening (sight_in s) root) e

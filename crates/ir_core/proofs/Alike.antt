@@ -1,15 +1,17 @@
 -- The epochs of a run, and those of its controller's steps alone: they are built alike.
 use Rattle.std.proofs.Common.{◌≡◌, ◌≢◌, ℕ, zero, suc, ◌+◌, ◌-◌, List, [], ◌∷◌, ◌++◌, length, Option, Some, None, Bool, true, false, cond, refl, sym, ap, ◌∙◌, subst, inl, inr}
-use Rattle.std.specs.Prelude.{Result, Ok, Err, not, ◌||◌, ◌==◌, nat_lt, nat_le, is_some, slice_get}
+use Rattle.std.specs.Prelude.{Result, Ok, Err, not, ◌||◌, ◌==◌, nat_lt, nat_le, is_some, slice_get, slice_index_or}
 use Rattle.std.proofs.lemmas.Option.{none-some}
 use Rattle.std.proofs.lemmas.List.Elements.{All-head, All-tail}
 use Rattle.ir_model.specs.declared.Hop.{Hop}
 use Rattle.ir_model.specs.declared.Kind.{Kind}
 use Rattle.ir_model.specs.Topology.{Topology, ports_of, restrict}
 use Rattle.ir_model.specs.Walk.{IsConnected, IsDisconnected}
-use Rattle.ir_model.specs.Plan.{Plan, IsPlan}
+use Rattle.ir_model.specs.Plan.{Plan}
 use Rattle.ir_plan.specs.declared.tour.LabelOrder.{LabelOrder}
-use Rattle.ir_plan.specs.Starts.{IsLabelledBy}
+use Rattle.ir_plan.specs.Building.{Labelling, FromRoot}
+use Rattle.ir_core.specs.Drafts.{order_kept, labelling_by}
+use Rattle.ir_core.proofs.Labelled.{IsTwin, twins, made_moved}
 use Rattle.ir_core.specs.declared.opening.Opening.{Opening}
 use Rattle.ir_core.specs.declared.board.Board.{Board}
 use Rattle.ir_core.specs.Board.{links_used, marked, heeding, retired_below, installed}
@@ -30,42 +32,56 @@ use Rattle.ir_core.specs.Setting.{Setting, nodes_of, links_of, channel_of, into}
 use Rattle.ir_core.specs.Opened.{IsOpenedWith}
 use Rattle.ir_core.specs.Entry.{Entry, DidInject, DidLearn, DidTake, DidRead, DidAct, DidChange, DidInstall}
 use Rattle.ir_core.specs.History as history
-use Rattle.ir_core.specs.Meaning.{Sight, IsMade, ComesTo, InstallsUnless, unless, install_refusal, installs_made, topology_up, newest, newest_of, is_full, sight_after, with_entry, injects, learns, takes, takes_from, takes_first, reads, acts, acts_on, retires, marks, heeds}
+use Rattle.ir_core.specs.Meaning.{Sight, IsMade, ComesTo, Installs, InstallsUnless, unless, install_refusal, labelling_next, plan_of, installs_made, topology_up, newest, newest_of, is_full, sight_after, with_entry, injects, learns, takes, takes_from, takes_first, reads, acts, acts_on, retires, marks, heeds}
 use Rattle.ir_core.specs.World.{World}
 use Rattle.ir_core.specs.Shows.{IsAnswered}
 use Rattle.ir_core.specs.Run.{IsStepAnswered, IsRun}
 use Rattle.ir_core.specs.Avoided.{made_by}
 use Rattle.ir_core.specs.Drain.{after_read, after_act, after_take, after_way, after_ports, after_visit, after_visits, after_rounds}
-use Rattle.ir_core.specs.Installed.{IsControlled, IsControlRun, AreBuiltFrom, IsPlainChange, NoneWantsMemory, AreEpochsOf}
+use Rattle.ir_core.specs.Installed.{IsControlled, IsControlRun, labelled_by, AreBuiltFrom, IsPlainChange, NoneWantsMemory, AreEpochsOf}
 
--- two plans of one kind, root and network, the first labelled in this order
-abbrev IsTwin : LabelOrder → Plan → Plan → Type 0
-IsTwin n s t = (s.kind ≡ t.kind) × (s.root ≡ t.root) × (s.topology ≡ t.topology) × IsPlan s × IsLabelledBy n s
+abbrev pub AreTwins : List Plan → List Plan → Type 0
+AreTwins [] [] = Unit {0}
+AreTwins [] (t ∷ ts) = ⊥
+AreTwins (s ∷ ss) [] = ⊥
+AreTwins (s ∷ ss) (t ∷ ts) = IsTwin t s × AreTwins ss ts
 
-abbrev AreTwins : LabelOrder → List Plan → List Plan → Type 0
-AreTwins n [] [] = Unit {0}
-AreTwins n [] (t ∷ ts) = ⊥
-AreTwins n (s ∷ ss) [] = ⊥
-AreTwins n (s ∷ ss) (t ∷ ts) = IsTwin n s t × AreTwins n ss ts
-
--- two histories with the same boards, and plans of the same kinds, roots and networks
+-- two histories with the same boards, and plans of the same kinds, roots, networks and labels
 record AreAlike (o p : Setting) (log other : List Entry) : Type 0 where
   boards : history.boards log ≡ history.boards other
-  plans : AreTwins o.labels (history.plans o log) (history.plans p other)
+  plans : AreTwins (history.plans o log) (history.plans p other)
 
-twins-length : (n : LabelOrder) (ss ts : List Plan) → AreTwins n ss ts → length ss ≡ length ts
-twins-length n [] [] h = refl
-twins-length n [] (t ∷ ts) h = absurd h
-twins-length n (s ∷ ss) [] h = absurd h
-twins-length n (s ∷ ss) (t ∷ ts) h = ap suc (twins-length n ss ts h.1)
+pub twins-length : (ss ts : List Plan) → AreTwins ss ts → length ss ≡ length ts
+twins-length [] [] h = refl
+twins-length [] (t ∷ ts) h = absurd h
+twins-length (s ∷ ss) [] h = absurd h
+twins-length (s ∷ ss) (t ∷ ts) h = ap suc (twins-length ss ts h.1)
 
-twins-push : (n : LabelOrder) (ss ts : List Plan) (s t : Plan) → AreTwins n ss ts → IsTwin n s t → AreTwins n (ss ++ s ∷ []) (ts ++ t ∷ [])
-twins-push n [] [] s t h is = (is, tt)
-twins-push n [] (y ∷ ts) s t h is = absurd h
-twins-push n (x ∷ ss) [] s t h is = absurd h
-twins-push n (x ∷ ss) (y ∷ ts) s t h is = (h.0, twins-push n ss ts s t h.1 is)
+pub twins-push : (ss ts : List Plan) (s t : Plan) → AreTwins ss ts → IsTwin t s → AreTwins (ss ++ s ∷ []) (ts ++ t ∷ [])
+twins-push [] [] s t h is = (is, tt)
+twins-push [] (y ∷ ts) s t h is = absurd h
+twins-push (x ∷ ss) [] s t h is = absurd h
+twins-push (x ∷ ss) (y ∷ ts) s t h is = (h.0, twins-push ss ts s t h.1 is)
 
-twins_built : (o p : Setting) → o.topology ≡ p.topology → o.labels ≡ p.labels → (installs : List Install) (ss ts : List Plan) → AreTwins o.labels ss ts → AreBuiltFrom p installs ts → AreBuiltFrom o installs ss
+-- the plans at one place have one order
+pub twins-at : (ss ts : List Plan) → AreTwins ss ts → (k : ℕ) (d e : Plan) → d.order ≡ e.order → (slice_index_or ss k d).order ≡ (slice_index_or ts k e).order
+twins-at [] [] h k d e same = same
+twins-at [] (t ∷ ts) h k d e same = absurd h
+twins-at (s ∷ ss) [] h k d e same = absurd h
+twins-at (s ∷ ss) (t ∷ ts) h zero d e same = sym h.0.order
+twins-at (s ∷ ss) (t ∷ ts) h (suc k) d e same = twins-at ss ts h.1 k d e same
+
+-- by what the next plans are labelled
+pub next_same : (o p : Setting) → o.labels ≡ p.labels → o.keeps ≡ p.keeps → o.first.order ≡ p.first.order → (ss ts : List Plan) → AreTwins ss ts → (kind : Kind) (root : ℕ) →
+    labelling_by o.labels root (order_kept o.keeps kind (plan_of o ss (length ss)).order) ≡ labelling_by p.labels root (order_kept p.keeps kind (plan_of p ts (length ts)).order)
+next_same o p order keep first ss ts are kind root =
+    let newest : (plan_of o ss (length ss)).order ≡ (plan_of p ts (length ts)).order =
+    twins-at ss ts are (length ss - 1) o.first p.first first ∙ ap (λ (n : ℕ). (slice_index_or ts (n - 1) p.first).order) (twins-length ss ts are) in
+    ap (λ (xs : List ℕ). labelling_by o.labels root (order_kept o.keeps kind xs)) newest
+    ∙ ap (λ (k : Bool). labelling_by o.labels root (order_kept k kind (plan_of p ts (length ts)).order)) keep
+    ∙ ap (λ (n : LabelOrder). labelling_by n root (order_kept p.keeps kind (plan_of p ts (length ts)).order)) order
+
+twins_built : (o p : Setting) → o.topology ≡ p.topology → o.labels ≡ p.labels → (installs : List Install) (ss ts : List Plan) → AreTwins ss ts → AreBuiltFrom p installs ts → AreBuiltFrom o installs ss
 twins_built o p same order [] [] [] h built = tt
 twins_built o p same order [] [] (t ∷ ts) h built = absurd h
 twins_built o p same order [] (s ∷ ss) [] h built = absurd h
@@ -73,21 +89,15 @@ twins_built o p same order [] (s ∷ ss) (t ∷ ts) h built = absurd built
 twins_built o p same order (i ∷ installs) [] [] h built = absurd built
 twins_built o p same order (i ∷ installs) [] (t ∷ ts) h built = absurd h
 twins_built o p same order (i ∷ installs) (s ∷ ss) [] h built = absurd h
-twins_built o p same order (i ∷ installs) (s ∷ ss) (t ∷ ts) h built =
-    let twin = h.0 in
-    let made = built.0.1 in (
-      (
-        built.0.0 ∙ ap (λ (net : Topology). length net.links) (sym same),
-        record {
-          valid = twin.3;
-          over = twin.2 ∙ made.over ∙ ap (λ (net : Topology). restrict i.up.items net) (sym same);
-          of_kind = twin.0 ∙ made.of_kind;
-          labelled = (subst (λ (n : LabelOrder). IsLabelledBy n s) (order ∙ sym built.0.2) twin.4, twin.1 ∙ made.labelled.1);
-        },
-        built.0.2 ∙ sym order,
-      ),
-      twins_built o p same order installs ss ts h.1 built.1,
-    )
+twins_built o p same order (i ∷ installs) (s ∷ ss) (t ∷ ts) h built = (
+  (
+    built.0.0 ∙ ap (λ (net : Topology). length net.links) (sym same),
+    subst (λ (net : Topology). IsMade (labelled_by i) i.kind (restrict i.up.items net) (Some s)) (sym same) (made_moved (restrict i.up.items p.topology) i.kind (labelled_by i) t s h.0 built.0.1),
+    built.0.2 ∙ sym order,
+    built.0.3,
+  ),
+  twins_built o p same order installs ss ts h.1 built.1,
+)
 
 -- Entries of the steps that are no controller's change neither boards nor plans, nor what the plans were made by.
 abbrev pub IsPassed : Result Entry Refused → Type 0
@@ -198,7 +208,7 @@ kept_rounds o (suc k) log = keeps_both o log (after_rounds o k log) (after_round
 -- a step that is passed over leaves histories alike
 alike_kept : (o p : Setting) (log mid other : List Entry) → SameEpochs o log mid → AreAlike o p log other → AreAlike o p mid other
 alike_kept o p log mid other keeps is =
-    record { boards = keeps.boards ∙ is.boards; plans = subst (λ (plans : List Plan). AreTwins o.labels plans (history.plans p other)) (sym keeps.plans) is.plans }
+    record { boards = keeps.boards ∙ is.boards; plans = subst (λ (plans : List Plan). AreTwins plans (history.plans p other)) (sym keeps.plans) is.plans }
 
 -- what a change of the board comes to
 abbrev pub IsBoardChange : Result Entry Refused → Type 0
@@ -222,14 +232,15 @@ change_comes o s (event.Up l) is w comes = subst IsBoardChange (sym comes) (chan
 change_comes o s (event.Avoid l) is w comes = subst IsBoardChange (sym comes) (change_or (heed_refused (links_of o) (newest s) l false) (heeding (newest s) l false))
 change_comes o s (event.Heed l) is w comes = subst IsBoardChange (sym comes) (change_or (heed_refused (links_of o) (newest s) l true) (heeding (newest s) l true))
 change_comes o s (event.Install kind root) is w comes = absurd is
+change_comes o s (event.Renumber kind root) is w comes = absurd is
 change_comes o s (event.Inject source dest) is w comes = absurd is
 change_comes o s (event.Learn e) is w comes = absurd is
 change_comes o s (event.Take u way) is w comes = absurd is
 change_comes o s (event.Read u k) is w comes = absurd is
 change_comes o s (event.Act u) is w comes = absurd is
 
--- Two settings over one network. A change comes to the same by the same boards.
-module _ (o p : Setting) (over : o.topology ≡ p.topology) where
+-- Two settings over one network that label alike. A change comes to the same by the same boards.
+module _ (o p : Setting) (over : o.topology ≡ p.topology) (order : o.labels ≡ p.labels) (keep : o.keeps ≡ p.keeps) (first : o.first.order ≡ p.first.order) where
   marks_same : (s t : Sight) (l : ℕ) (up : Bool) → s.boards ≡ t.boards → marks o s l up ≡ marks p t l up
   marks_same s t l up same =
       ap (λ (boards : List Board). marks o (record s { boards = boards }) l up) same ∙ ap (λ (net : Topology). marks (record o { topology = net }) t l up) over
@@ -245,6 +256,7 @@ module _ (o p : Setting) (over : o.topology ≡ p.topology) where
   change_same s t same (event.Avoid l) is w v comes goes = comes ∙ heeds_same s t l false same ∙ sym goes
   change_same s t same (event.Heed l) is w v comes goes = comes ∙ heeds_same s t l true same ∙ sym goes
   change_same s t same (event.Install kind root) is w v comes goes = absurd is
+  change_same s t same (event.Renumber kind root) is w v comes goes = absurd is
   change_same s t same (event.Inject source dest) is w v comes goes = absurd is
   change_same s t same (event.Learn e) is w v comes goes = absurd is
   change_same s t same (event.Take u way) is w v comes goes = absurd is
@@ -276,39 +288,48 @@ module _ (o p : Setting) (over : o.topology ≡ p.topology) where
   refused_same : (log other : List Entry) → AreAlike o p log other → (root : ℕ) → install_refusal o (sight_after o log) root ≡ install_refusal p (sight_after p other) root
   refused_same log other is root =
       ap (λ (boards : List Board). install_refused (nodes_of o) (length (history.plans o log)) (newest_of boards) root) is.boards
-      ∙ ap (λ (n : ℕ). install_refused (nodes_of o) n (newest_of (history.boards other)) root) (twins-length _ _ _ is.plans)
+      ∙ ap (λ (n : ℕ). install_refused (nodes_of o) n (newest_of (history.boards other)) root) (twins-length _ _ is.plans)
       ∙ ap (λ (net : Topology). install_refusal (record p { topology = net }) (sight_after p other) root) over
 
-  not_both : (labels : LabelOrder) (kind : Kind) (root : ℕ) (net : Topology) (t : Plan) → IsMade labels kind root net (Some t) → IsDisconnected net → ⊥
-  not_both labels kind root net t made apart =
+  not_both : (labels : Labelling) (kind : Kind) (net : Topology) (t : Plan) → IsMade labels kind net (Some t) → IsDisconnected net → ⊥
+  not_both labels kind net t made apart =
       let walk = subst (λ (n : Topology). IsConnected n) made.over made.valid.connected apart.0 apart.1 apart.2 apart.3 in
       apart.4 walk.0 walk.1
 
-  installed_alike : (log other : List Entry) → AreAlike o p log other → (kind : Kind) (root : ℕ) (x y : Option Plan) → IsMade o.labels kind root (topology_up o (sight_after o log)) x → IsMade p.labels kind root (topology_up p (sight_after p other)) y →
+  -- by what the next plan is labelled
+  labels_same : (log other : List Entry) → AreAlike o p log other → (kind : Kind) (root : ℕ) → labelling_next o (sight_after o log) kind root ≡ labelling_next p (sight_after p other) kind root
+  labels_same log other is kind root = next_same o p order keep first (history.plans o log) (history.plans p other) is.plans kind root
+
+  installed_alike : (log other : List Entry) → AreAlike o p log other → (labels : Labelling) (kind : Kind) (x y : Option Plan) → IsMade labels kind (topology_up o (sight_after o log)) x → IsMade labels kind (topology_up p (sight_after p other)) y →
       AreAlike o p (with_entry log (installs_made (sight_after o log) x)) (with_entry other (installs_made (sight_after p other) y))
-  installed_alike log other is kind root None None made given = is
-  installed_alike log other is kind root None (Some u) made given =
-      absurd (not_both p.labels kind root (topology_up p (sight_after p other)) u given (subst (λ (net : Topology). IsDisconnected net) (up_same log other is) made))
-  installed_alike log other is kind root (Some t) None made given =
-      absurd (not_both o.labels kind root (topology_up o (sight_after o log)) t made (subst (λ (net : Topology). IsDisconnected net) (sym (up_same log other is)) given))
-  installed_alike log other is kind root (Some t) (Some u) made given =
-      let count = twins-length o.labels (history.plans o log) (history.plans p other) is.plans in
+  installed_alike log other is labels kind None None made given = is
+  installed_alike log other is labels kind None (Some u) made given =
+      absurd (not_both labels kind (topology_up p (sight_after p other)) u given (subst (λ (net : Topology). IsDisconnected net) (up_same log other is) made))
+  installed_alike log other is labels kind (Some t) None made given =
+      absurd (not_both labels kind (topology_up o (sight_after o log)) t made (subst (λ (net : Topology). IsDisconnected net) (sym (up_same log other is)) given))
+  installed_alike log other is labels kind (Some t) (Some u) made given =
+      let count = twins-length (history.plans o log) (history.plans p other) is.plans in
       let board = ap (λ (boards : List Board). installed (newest_of boards) (length (history.plans o log) + 1)) is.boards ∙ ap (λ (n : ℕ). installed (newest_of (history.boards other)) (n + 1)) count in
+      let here = subst (λ (net : Topology). IsMade labels kind net (Some t)) (up_same log other is) made in
       record {
         boards = ap (λ (boards : List Board). boards ++ installed (newest_of (history.boards log)) (length (history.plans o log) + 1) ∷ []) is.boards ∙ ap (λ (b : Board). history.boards other ++ b ∷ []) board;
-        plans = twins-push o.labels (history.plans o log) (history.plans p other) t u is.plans
-            (made.of_kind ∙ sym given.of_kind, made.labelled.1 ∙ sym given.labelled.1, made.over ∙ up_same log other is ∙ sym given.over, made.valid, made.labelled.0);
+        plans = twins-push (history.plans o log) (history.plans p other) t u is.plans (twins (topology_up p (sight_after p other)) kind labels u t given here);
       }
 
-  install_alike : (log other : List Entry) → AreAlike o p log other → (kind : Kind) (root : ℕ) (w v : Result Entry Refused) (x y : Option Refused) → x ≡ y →
-      InstallsUnless o (sight_after o log) kind root w x → InstallsUnless p (sight_after p other) kind root v y → AreAlike o p (with_entry log w) (with_entry other v)
-  install_alike log other is kind root w v (Some e) (Some f) same comes goes =
-      subst (λ (z : Result Entry Refused). AreAlike o p (with_entry log z) (with_entry other v)) (sym comes) (subst (λ (z : Result Entry Refused). AreAlike o p log (with_entry other z)) (sym goes) is)
-  install_alike log other is kind root w v (Some e) None same comes goes = absurd (none-some e (sym same))
-  install_alike log other is kind root w v None (Some f) same comes goes = absurd (none-some f same)
-  install_alike log other is kind root w v None None same comes goes =
-      subst (λ (z : Result Entry Refused). AreAlike o p (with_entry log z) (with_entry other v)) (sym comes.2)
-      (subst (λ (z : Result Entry Refused). AreAlike o p (with_entry log (installs_made (sight_after o log) comes.0)) (with_entry other z)) (sym goes.2) (installed_alike log other is kind root comes.0 goes.0 comes.1 goes.1))
+  install_alike : (log other : List Entry) → AreAlike o p log other → (labels theirs : Labelling) → labels ≡ theirs → (kind : Kind) (root : ℕ) (w v : Result Entry Refused) →
+      Installs o (sight_after o log) labels kind root w → Installs p (sight_after p other) theirs kind root v → AreAlike o p (with_entry log w) (with_entry other v)
+  install_alike log other is labels theirs by kind root w v comes goes =
+      either (install_refusal o (sight_after o log) root) (install_refusal p (sight_after p other) root) (refused_same log other is root) comes
+      (subst (λ (l : Labelling). Installs p (sight_after p other) l kind root v) (sym by) goes)
+    where
+      either : (x y : Option Refused) → x ≡ y → InstallsUnless o (sight_after o log) labels kind w x → InstallsUnless p (sight_after p other) labels kind v y → AreAlike o p (with_entry log w) (with_entry other v)
+      either (Some e) (Some f) same comes goes =
+          subst (λ (z : Result Entry Refused). AreAlike o p (with_entry log z) (with_entry other v)) (sym comes) (subst (λ (z : Result Entry Refused). AreAlike o p log (with_entry other z)) (sym goes) is)
+      either (Some e) None same comes goes = absurd (none-some e (sym same))
+      either None (Some f) same comes goes = absurd (none-some f same)
+      either None None same comes goes =
+          subst (λ (z : Result Entry Refused). AreAlike o p (with_entry log z) (with_entry other v)) (sym comes.2)
+          (subst (λ (z : Result Entry Refused). AreAlike o p (with_entry log (installs_made (sight_after o log) comes.0)) (with_entry other z)) (sym goes.2) (installed_alike log other is labels kind comes.0 goes.0 comes.1 goes.1))
 
   -- what an event that is no controller's comes to
   event_passed : (s : Sight) (w v : Result Entry Refused) → IsPassed v → w ≡ v → IsPassed w
@@ -324,8 +345,9 @@ module _ (o p : Setting) (over : o.topology ≡ p.topology) where
 
   event_alike : (log other later next : List Entry) → AreAlike o p log other → (e : Event) (w : Result Entry Refused) → ComesTo o (sight_after o log) e w → later ≡ with_entry log w → IsControlled p other (step.Event e) next → AreAlike o p later next
   event_alike log other later next is (event.Install kind root) w comes went t =
-      taken log other later next w t.0 went t.2
-      (install_alike log other is kind root w t.0 (install_refusal o (sight_after o log) root) (install_refusal p (sight_after p other) root) (refused_same log other is root) comes t.1)
+      taken log other later next w t.0 went t.2 (install_alike log other is _ _ (labels_same log other is kind root) kind root w t.0 comes t.1)
+  event_alike log other later next is (event.Renumber kind root) w comes went t =
+      taken log other later next w t.0 went t.2 (install_alike log other is _ _ (ap (λ (n : LabelOrder). FromRoot n root) order) kind root w t.0 comes t.1)
   event_alike log other later next is (event.Retire f) w comes went t = taken log other later next w t.0 went t.2 (change_alike log other is (event.Retire f) tt w t.0 comes t.1)
   event_alike log other later next is (event.Down l) w comes went t = taken log other later next w t.0 went t.2 (change_alike log other is (event.Down l) tt w t.0 comes t.1)
   event_alike log other later next is (event.Up l) w comes went t = taken log other later next w t.0 went t.2 (change_alike log other is (event.Up l) tt w t.0 comes t.1)
@@ -365,17 +387,18 @@ module _ (o p : Setting) (over : o.topology ≡ p.topology) where
       (All-tail (λ (r : Result Reply Refused). r ≢ Err NoMemory) reply replies memory) run.2 control.2
 
 -- the first epochs of two openings alike
-opened_alike : (opening : Opening) (o p : Setting) → IsOpenedWith opening o → IsOpenedWith opening p → AreAlike o p [] []
-opened_alike opening o p a b =
-    let made = a.first in
-    let given = b.first in
-    record { boards = refl; plans = ((made.of_kind ∙ sym given.of_kind, made.labelled.1 ∙ sym given.labelled.1, made.over ∙ sym given.over, made.valid, subst (λ (n : LabelOrder). IsLabelledBy n o.first) (sym a.labels) made.labelled.0), tt) }
+pub first_twins : (opening : Opening) (o p : Setting) → IsOpenedWith opening o → IsOpenedWith opening p → IsTwin p.first o.first
+first_twins opening o p a b = twins opening.topology opening.kind (FromRoot opening.labels opening.root) p.first o.first b.first a.first
 
 -- the epochs of a run are built from the installs of its steps
 pub epochs_built : (opening : Opening) (steps : List Step) (replies : List (Result Reply Refused)) (world : World) (installs : List Install) →
     AreEpochsOf opening steps replies world installs
 epochs_built opening steps replies world installs opened played memory built =
     let o = world.opening in
+    let p = built.setting in
     let over = opened.topology ∙ sym built.opened.topology in
-    let alike = run_alike o built.setting over steps replies [] [] played.log built.log (opened_alike opening o built.setting opened built.opened) memory played.run built.run in
-    subst (λ (plans : List Plan). AreBuiltFrom o installs plans) (sym played.shows.plans) (twins_built o built.setting over (opened.labels ∙ sym built.opened.labels) installs (history.plans o played.log) (history.plans built.setting built.log) alike.plans built.built)
+    let order = opened.labels ∙ sym built.opened.labels in
+    let twin = first_twins opening o p opened built.opened in
+    let start : AreAlike o p [] [] = record { boards = refl; plans = (twin, tt) } in
+    let alike = run_alike o p over order (opened.keeps ∙ sym built.opened.keeps) (sym twin.order) steps replies [] [] played.log built.log start memory played.run built.run in
+    subst (λ (plans : List Plan). AreBuiltFrom o installs plans) (sym played.shows.plans) (twins_built o p over order installs (history.plans o played.log) (history.plans p built.log) alike.plans built.built)

@@ -22,8 +22,9 @@ use Rattle.ir_core.specs.Record.{Record, present, stamp_of}
 use Rattle.ir_core.specs.Setting.{Setting, links_of}
 use Rattle.ir_core.specs.Entry.{Entry, DidInject, DidLearn, DidTake, DidRead, DidAct, DidChange, DidInstall}
 use Rattle.ir_core.specs.History as history
-use Rattle.ir_core.specs.Meaning.{IsMade, ComesTo, InstallsUnless, installs_made, topology_up, newest_of, sight_after, with_entry, install_refusal, injects, learns, takes, reads, acts}
+use Rattle.ir_core.specs.Meaning.{IsMade, ComesTo, InstallsUnless, installs_made, topology_up, newest_of, sight_after, with_entry, install_refusal, labelling_next, injects, learns, takes, reads, acts}
 use Rattle.ir_core.specs.Sound.{IsSoundBy, IsPlanAmong, FateFits, last_of}
+use Rattle.ir_plan.specs.Building.{Labelling, FromRoot}
 use Rattle.ir_core.specs.Shows.{IsAnswered}
 use Rattle.ir_core.specs.Run.{IsStepAnswered, IsRun}
 use Rattle.ir_core.specs.Drain.{after_rounds}
@@ -79,11 +80,11 @@ module _ (o : Setting) (log : List Entry) (t : Plan) (b : Board) where
   ]
 
 module _ (o : Setting) where
-  install_over : (log : List Entry) (kind : Kind) (root : ℕ) (w : Result Entry Refused) (x : Option Refused) → InstallsUnless o (sight_after o log) kind root w x → AreOverUsed o log → AreOverUsed o (with_entry log w)
-  install_over log kind root w (Some e) comes is = subst (λ (z : Result Entry Refused). AreOverUsed o (with_entry log z)) (sym comes) is
-  install_over log kind root w None comes is = subst (λ (z : Result Entry Refused). AreOverUsed o (with_entry log z)) (sym comes.2) (by_made comes.0 comes.1)
+  install_over : (log : List Entry) (labels : Labelling) (kind : Kind) (w : Result Entry Refused) (x : Option Refused) → InstallsUnless o (sight_after o log) labels kind w x → AreOverUsed o log → AreOverUsed o (with_entry log w)
+  install_over log labels kind w (Some e) comes is = subst (λ (z : Result Entry Refused). AreOverUsed o (with_entry log z)) (sym comes) is
+  install_over log labels kind w None comes is = subst (λ (z : Result Entry Refused). AreOverUsed o (with_entry log z)) (sym comes.2) (by_made comes.0 comes.1)
     where
-      by_made : (made : Option Plan) → IsMade o.labels kind root (topology_up o (sight_after o log)) made → AreOverUsed o (with_entry log (installs_made (sight_after o log) made))
+      by_made : (made : Option Plan) → IsMade labels kind (topology_up o (sight_after o log)) made → AreOverUsed o (with_entry log (installs_made (sight_after o log) made))
       by_made None m = is
       by_made (Some t) m = installed_over o log t (installed (newest_of (history.boards log)) (length (history.plans o log) + 1)) m.over is
 
@@ -91,7 +92,8 @@ module _ (o : Setting) where
   passed_over log w v comes passed is = same_over o log (with_entry log w) (passed_keeps o log w (subst (λ (x : Result Entry Refused). IsPassed x) (sym comes) passed)) is
 
   event_over : (log : List Entry) (e : Event) (w : Result Entry Refused) → ComesTo o (sight_after o log) e w → AreOverUsed o log → AreOverUsed o (with_entry log w)
-  event_over log (event.Install kind root) w comes is = install_over log kind root w (install_refusal o (sight_after o log) root) comes is
+  event_over log (event.Install kind root) w comes is = install_over log (labelling_next o (sight_after o log) kind root) kind w (install_refusal o (sight_after o log) root) comes is
+  event_over log (event.Renumber kind root) w comes is = install_over log (FromRoot o.labels root) kind w (install_refusal o (sight_after o log) root) comes is
   event_over log (event.Retire f) w comes is = change_over o log w (change_comes o (sight_after o log) (event.Retire f) tt w comes) is
   event_over log (event.Down l) w comes is = change_over o log w (change_comes o (sight_after o log) (event.Down l) tt w comes) is
   event_over log (event.Up l) w comes is = change_over o log w (change_comes o (sight_after o log) (event.Up l) tt w comes) is

@@ -4,6 +4,7 @@ use Rattle.std.specs.Prelude.{Result, Ok, Err, is_ok, IfOk}
 use Rattle.std.proofs.lemmas.Option.{slice_get_within}
 use Rattle.ir_model.specs.declared.Hop.{Hop}
 use Rattle.ir_model.specs.declared.Kind.{Kind}
+use Rattle.ir_model.specs.declared.Kind.TheVariants.{Tree}
 use Rattle.ir_model.specs.Topology.{Topology, IsTopology, is_up, restrict}
 use Rattle.ir_model.specs.Plan.{Plan}
 use Rattle.ir_model.proofs.Restrict.{rows_all}
@@ -26,11 +27,14 @@ use Rattle.ir_core.specs.Setting.{Setting, links_of}
 use Rattle.ir_core.specs.Opened.{IsOpenedWith}
 use Rattle.ir_core.specs.Entry.{Entry, DidChange}
 use Rattle.ir_core.specs.History as history
-use Rattle.ir_core.specs.Meaning.{IsMade, ComesTo, InstallsUnless, unless, install_refusal, installs_made, newest, newest_of, sight_after, with_entry}
+use Rattle.ir_plan.specs.Building.{Labelling}
+use Rattle.ir_core.specs.Drafts.{items_of, order_kept, labelling_by}
+use Rattle.ir_core.proofs.Labelled.{tree_keeps}
+use Rattle.ir_core.specs.Meaning.{Sight, IsMade, ComesTo, Installs, InstallsUnless, unless, install_refusal, installs_made, topology_up, newest, newest_of, newest_plan, plan_of, sight_after, with_entry}
 use Rattle.ir_core.specs.World.{World, IsWorld, sight_in}
 use Rattle.ir_core.specs.Shows.{Shows, AnswersAfter, IsAnswered, reply_to}
 use Rattle.ir_core.proofs.Accepted.{same_entry, not_accepted}
-use Rattle.ir_core.specs.Installed.{IsTaken, IsControlled, IsControlRun, IsBuiltFrom, AreBuiltFrom, AreInstallsWithPlans, ControlsOn, IsPlainChange}
+use Rattle.ir_core.specs.Installed.{IsTaken, IsControlled, IsControlRun, labelled_by, IsNext, IsInstallOf, IsBuiltFrom, AreBuiltFrom, AreInstallsWithPlans, ControlsOn, IsPlainChange}
 
 built_push : (o : Setting) (installs : List Install) (plans : List Plan) (i : Install) (t : Plan) → AreBuiltFrom o installs plans → IsBuiltFrom o i t → AreBuiltFrom o (installs ++ i ∷ []) (plans ++ t ∷ [])
 built_push o [] [] i t b is = (is, tt)
@@ -60,6 +64,7 @@ change_plans o log (event.Heed l) is wanted comes =
     let b = newest (sight_after o log) in
     ap (λ (w : Result Entry Refused). history.plans o (with_entry log w)) comes ∙ plans_kept o log (heed_refused (links_of o) b l true) (heeding b l true)
 change_plans o log (event.Install kind root) is wanted comes = absurd is
+change_plans o log (event.Renumber kind root) is wanted comes = absurd is
 change_plans o log (event.Inject source dest) is wanted comes = absurd is
 change_plans o log (event.Learn e) is wanted comes = absurd is
 change_plans o log (event.Take u way) is wanted comes = absurd is
@@ -73,6 +78,7 @@ change_controlled o log later (event.Up l) is t = t
 change_controlled o log later (event.Avoid l) is t = t
 change_controlled o log later (event.Heed l) is t = t
 change_controlled o log later (event.Install kind root) is t = absurd is
+change_controlled o log later (event.Renumber kind root) is t = absurd is
 change_controlled o log later (event.Inject source dest) is t = absurd is
 change_controlled o log later (event.Learn e) is t = absurd is
 change_controlled o log later (event.Take u way) is t = absurd is
@@ -91,50 +97,113 @@ change_taken s new e reply is same answers memory installs = (same, λ log k bui
         (later, change_controlled s.opening log later e is (a.0, a.1, a.3), shows, subst (λ (plans : List Plan). AreBuiltFrom s.opening installs plans) (sym plans) built)
     by_answer log built later (inr a) shows = absurd (memory a.1)
 
+-- what an install comes to, by what its plan is built from
+module _ (s : World) (t : Sight) (same : t.plans ≡ s.plans) (keeps : Bool) (kind : Kind) (root : ℕ) (i : Install) (is : IsNext s keeps kind root i) where
+  abbrev given : Labelling
+  given = labelling_by s.opening.labels root (order_kept keeps kind (newest_plan s.opening t).order)
+
+  labelled : given ≡ labelled_by i
+  labelled =
+      ap (λ (n : LabelOrder). labelling_by n root (order_kept keeps kind (newest_plan s.opening t).order)) (sym is.labels)
+      ∙ ap (λ (u : ℕ). labelling_by i.labels u (order_kept keeps kind (newest_plan s.opening t).order)) (sym is.root)
+      ∙ ap (labelling_by i.labels i.root) (ap (λ (plans : List Plan). order_kept keeps kind (plan_of s.opening plans (length plans)).order) same ∙ sym is.kept)
+
+  next_made : (wanted : Result Entry Refused) → Installs s.opening t given kind root wanted → Installs s.opening t (labelled_by i) i.kind i.root wanted
+  next_made wanted comes =
+      subst (λ (l : Labelling). Installs s.opening t l i.kind i.root wanted) labelled
+      (subst (λ (k : Kind). Installs s.opening t given k i.root wanted) (sym is.kind) (subst (λ (u : ℕ). Installs s.opening t given kind u wanted) (sym is.root) comes))
+
+install_comes : (s : World) (t : Sight) → t.plans ≡ s.plans → (e : Event) (i : Install) → IsInstallOf s e i → (wanted : Result Entry Refused) → ComesTo s.opening t e wanted → Installs s.opening t (labelled_by i) i.kind i.root wanted
+install_comes s t same (event.Install kind root) i is wanted comes = next_made s t same s.opening.keeps kind root i is wanted comes
+install_comes s t same (event.Renumber kind root) i is wanted comes = next_made s t same false kind root i is wanted comes
+install_comes s t same (event.Retire f) i is wanted comes = absurd is
+install_comes s t same (event.Down l) i is wanted comes = absurd is
+install_comes s t same (event.Up l) i is wanted comes = absurd is
+install_comes s t same (event.Avoid l) i is wanted comes = absurd is
+install_comes s t same (event.Heed l) i is wanted comes = absurd is
+install_comes s t same (event.Inject source dest) i is wanted comes = absurd is
+install_comes s t same (event.Learn e) i is wanted comes = absurd is
+install_comes s t same (event.Take u way) i is wanted comes = absurd is
+install_comes s t same (event.Read u k) i is wanted comes = absurd is
+install_comes s t same (event.Act u) i is wanted comes = absurd is
+
+install_controlled : (s : World) (log later : List Entry) (e : Event) (i : Install) → IsInstallOf s e i → IsTaken s.opening log e later → IsControlled s.opening log (step.Event e) later
+install_controlled s log later (event.Install kind root) i is t = t
+install_controlled s log later (event.Renumber kind root) i is t = t
+install_controlled s log later (event.Retire f) i is t = absurd is
+install_controlled s log later (event.Down l) i is t = absurd is
+install_controlled s log later (event.Up l) i is t = absurd is
+install_controlled s log later (event.Avoid l) i is t = absurd is
+install_controlled s log later (event.Heed l) i is t = absurd is
+install_controlled s log later (event.Inject source dest) i is t = absurd is
+install_controlled s log later (event.Learn e) i is t = absurd is
+install_controlled s log later (event.Take u way) i is t = absurd is
+install_controlled s log later (event.Read u k) i is t = absurd is
+install_controlled s log later (event.Act u) i is t = absurd is
+
+-- the links that are up, which its plan is over, and the order of all
+abbrev IsOverUp : World → Install → Type 0
+IsOverUp s i = (length i.up.items ≡ links_of s.opening) × (i.up.items ≡ links_used (newest (sight_in s)) (links_of s.opening)) × (i.labels ≡ s.opening.labels) × (i.kind ≡ Tree → items_of i.kept ≡ None)
+
+over_up : (s : World) (e : Event) (i : Install) → IsInstallOf s e i → IsOverUp s i
+over_up s (event.Install kind root) i is = (is.count, is.up, is.labels, λ tree. is.kept ∙ tree_keeps s.opening.keeps kind (newest_plan s.opening (sight_in s)).order (sym is.kind ∙ tree))
+over_up s (event.Renumber kind root) i is = (is.count, is.up, is.labels, λ _. is.kept)
+over_up s (event.Retire f) i is = absurd is
+over_up s (event.Down l) i is = absurd is
+over_up s (event.Up l) i is = absurd is
+over_up s (event.Avoid l) i is = absurd is
+over_up s (event.Heed l) i is = absurd is
+over_up s (event.Inject source dest) i is = absurd is
+over_up s (event.Learn e) i is = absurd is
+over_up s (event.Take u way) i is = absurd is
+over_up s (event.Read u k) i is = absurd is
+over_up s (event.Act u) i is = absurd is
+
 -- an install, accepted or refused
-module _ (s new : World) (kind : Kind) (root : ℕ) (reply : Result Reply Refused) (same : new.opening ≡ s.opening)
-    (answers : (log : List Entry) → Shows log s → AnswersAfter log (event.Install kind root) reply s.opening new) (memory : reply ≢ Err NoMemory) where
+module _ (s new : World) (e : Event) (i : Install) (is : IsInstallOf s e i) (reply : Result Reply Refused) (same : new.opening ≡ s.opening)
+    (answers : (log : List Entry) → Shows log s → AnswersAfter log e reply s.opening new) (memory : reply ≢ Err NoMemory) where
   refused_by : (log later : List Entry) (installs : List Install) (wanted : Result Entry Refused) → is_ok (reply_to wanted) ≡ false → later ≡ with_entry log wanted →
       AreBuiltFrom s.opening installs (history.plans s.opening log) → AreBuiltFrom s.opening installs (history.plans s.opening later)
   refused_by log later installs (Ok entry) not is built = cc
   refused_by log later installs (Err e) not is built = subst (λ (x : List Entry). AreBuiltFrom s.opening installs (history.plans s.opening x)) (sym is) built
 
-  pub install_refused_so : is_ok reply ≡ false → (installs : List Install) → ControlsOn s (step.Event (event.Install kind root)) installs new installs
+  pub install_refused_so : is_ok reply ≡ false → (installs : List Install) → ControlsOn s (step.Event e) installs new installs
   install_refused_so not installs = (same, λ log k built. by_answer log built (answers log k).0 (answers log k).1 (answers log k).2)
     where
-      by_answer : (log : List Entry) → AreBuiltFrom s.opening installs (history.plans s.opening log) → (later : List Entry) → IsAnswered s.opening log (event.Install kind root) reply later → Shows later new →
-          (x : List Entry) × IsControlled s.opening log (step.Event (event.Install kind root)) x × Shows x new × AreBuiltFrom s.opening installs (history.plans s.opening x)
+      by_answer : (log : List Entry) → AreBuiltFrom s.opening installs (history.plans s.opening log) → (later : List Entry) → IsAnswered s.opening log e reply later → Shows later new →
+          (x : List Entry) × IsControlled s.opening log (step.Event e) x × Shows x new × AreBuiltFrom s.opening installs (history.plans s.opening x)
       by_answer log built later (inl a) shows =
-          (later, (a.0, a.1, a.3), shows, refused_by log later installs a.0 (sym (ap (λ (r : Result Reply Refused). is_ok r) a.2) ∙ not) a.3 built)
+          (later, install_controlled s log later e i is (a.0, a.1, a.3), shows, refused_by log later installs a.0 (sym (ap (λ (r : Result Reply Refused). is_ok r) a.2) ∙ not) a.3 built)
       by_answer log built later (inr a) shows = absurd (memory a.1)
 
-  built_by : (log later : List Entry) (installs : List Install) (i : Install) (wanted : Result Entry Refused) (x : Option Refused) → is_ok (reply_to wanted) ≡ true → later ≡ with_entry log wanted →
-      InstallsUnless s.opening (sight_after s.opening log) kind root wanted x → ((t : Plan) → IsMade s.opening.labels kind root (restrict (links_used (newest (sight_after s.opening log)) (links_of s.opening)) s.opening.topology) (Some t) → IsBuiltFrom s.opening i t) →
+  built_by : (log later : List Entry) (installs : List Install) (wanted : Result Entry Refused) (x : Option Refused) → is_ok (reply_to wanted) ≡ true → later ≡ with_entry log wanted →
+      InstallsUnless s.opening (sight_after s.opening log) (labelled_by i) i.kind wanted x → ((t : Plan) → IsMade (labelled_by i) i.kind (topology_up s.opening (sight_after s.opening log)) (Some t) → IsBuiltFrom s.opening i t) →
       AreBuiltFrom s.opening installs (history.plans s.opening log) → AreBuiltFrom s.opening (installs ++ i ∷ []) (history.plans s.opening later)
-  built_by log later installs i (Err e) x did is comes from built = cc
-  built_by log later installs i (Ok entry) (Some e) did is comes from built = absurd (not_accepted e entry (sym comes))
-  built_by log later installs i (Ok entry) None did is comes from built = by_made comes.0 comes.1 comes.2
+  built_by log later installs (Err e) x did went comes from built = cc
+  built_by log later installs (Ok entry) (Some e) did went comes from built = absurd (not_accepted e entry (sym comes))
+  built_by log later installs (Ok entry) None did went comes from built = by_made comes.0 comes.1 comes.2
     where
-      by_made : (made : Option Plan) → IsMade s.opening.labels kind root (restrict (links_used (newest (sight_after s.opening log)) (links_of s.opening)) s.opening.topology) made → Ok entry ≡ installs_made (sight_after s.opening log) made →
+      by_made : (made : Option Plan) → IsMade (labelled_by i) i.kind (topology_up s.opening (sight_after s.opening log)) made → Ok entry ≡ installs_made (sight_after s.opening log) made →
           AreBuiltFrom s.opening (installs ++ i ∷ []) (history.plans s.opening later)
       by_made None m e = absurd (not_accepted Disconnected entry (sym e))
       by_made (Some t) m e =
-          let plans = ap (λ (x : List Entry). history.plans s.opening x) is ∙ ap (λ (x : Entry). history.plans s.opening (x ∷ log)) (same_entry entry _ e) in
+          let plans = ap (λ (x : List Entry). history.plans s.opening x) went ∙ ap (λ (x : Entry). history.plans s.opening (x ∷ log)) (same_entry entry _ e) in
           subst (λ (plans : List Plan). AreBuiltFrom s.opening (installs ++ i ∷ []) plans) (sym plans) (built_push s.opening installs (history.plans s.opening log) i t built (from t m))
 
-  pub install_accepted_so : is_ok reply ≡ true → (i : Install) → i.labels ≡ s.opening.labels → i.kind ≡ kind → i.root ≡ root → length i.up.items ≡ links_of s.opening → i.up.items ≡ links_used (newest (sight_in s)) (links_of s.opening) → (installs : List Install) →
-      ControlsOn s (step.Event (event.Install kind root)) installs new (installs ++ i ∷ [])
-  install_accepted_so did i same_labels same_kind same_root marks is_up installs = (same, λ log k built. by_answer log k built (answers log k).0 (answers log k).1 (answers log k).2)
+  pub install_accepted_so : is_ok reply ≡ true → (installs : List Install) → ControlsOn s (step.Event e) installs new (installs ++ i ∷ [])
+  install_accepted_so did installs = (same, λ log k built. by_answer log k built (answers log k).0 (answers log k).1 (answers log k).2)
     where
-      by_answer : (log : List Entry) → Shows log s → AreBuiltFrom s.opening installs (history.plans s.opening log) → (later : List Entry) → IsAnswered s.opening log (event.Install kind root) reply later → Shows later new →
-          (x : List Entry) × IsControlled s.opening log (step.Event (event.Install kind root)) x × Shows x new × AreBuiltFrom s.opening (installs ++ i ∷ []) (history.plans s.opening x)
+      by_answer : (log : List Entry) → Shows log s → AreBuiltFrom s.opening installs (history.plans s.opening log) → (later : List Entry) → IsAnswered s.opening log e reply later → Shows later new →
+          (x : List Entry) × IsControlled s.opening log (step.Event e) x × Shows x new × AreBuiltFrom s.opening (installs ++ i ∷ []) (history.plans s.opening x)
       by_answer log k built later (inl a) shows =
-          let here : i.up.items ≡ links_used (newest (sight_after s.opening log)) (links_of s.opening) = is_up ∙ ap (λ (boards : List Board). links_used (newest_of boards) (links_of s.opening)) k.boards in (
+          let over = over_up s e i is in
+          let here : i.up.items ≡ links_used (newest (sight_after s.opening log)) (links_of s.opening) = over.1 ∙ ap (λ (boards : List Board). links_used (newest_of boards) (links_of s.opening)) k.boards in (
             later,
-            (a.0, a.1, a.3),
+            install_controlled s log later e i is (a.0, a.1, a.3),
             shows,
-            built_by log later installs i a.0 (install_refusal s.opening (sight_after s.opening log) root) (sym (ap (λ (r : Result Reply Refused). is_ok r) a.2) ∙ did) a.3 a.1
-                (λ t m. (marks, subst (λ (n : LabelOrder). IsMade n i.kind i.root (restrict i.up.items s.opening.topology) (Some t)) (sym same_labels) (subst (λ (k : Kind). IsMade s.opening.labels k i.root (restrict i.up.items s.opening.topology) (Some t)) (sym same_kind) (subst (λ (n : ℕ). IsMade s.opening.labels kind n (restrict i.up.items s.opening.topology) (Some t)) (sym same_root) (subst (λ (xs : List Bool). IsMade s.opening.labels kind root (restrict xs s.opening.topology) (Some t)) (sym here) m))), same_labels)) built,
+            built_by log later installs a.0 (install_refusal s.opening (sight_after s.opening log) i.root) (sym (ap (λ (r : Result Reply Refused). is_ok r) a.2) ∙ did) a.3
+                (install_comes s (sight_after s.opening log) (sym k.plans) e i is a.0 a.1)
+                (λ t m. (over.0, subst (λ (xs : List Bool). IsMade (labelled_by i) i.kind (restrict xs s.opening.topology) (Some t)) (sym here) m, over.2, over.3)) built,
           )
       by_answer log k built later (inr a) shows = absurd (memory a.1)
 
@@ -155,11 +224,11 @@ restrict_all net ok few =
 
 -- the install of the first epoch
 pub first_built : (s : World) → IsWorld s → Shows [] s → (i : Install) → length i.up.items ≡ links_of s.opening → i.up.items ≡ links_used (newest (sight_in s)) (links_of s.opening) →
-    i.labels ≡ s.opening.labels → IsMade s.opening.labels i.kind i.root s.opening.topology (Some s.opening.first) → AreBuiltFrom s.opening (i ∷ []) (s.opening.first ∷ [])
-first_built s ok k i marks is_up same_labels made =
+    i.labels ≡ s.opening.labels → items_of i.kept ≡ None → IsMade (labelled_by i) i.kind s.opening.topology (Some s.opening.first) → AreBuiltFrom s.opening (i ∷ []) (s.opening.first ∷ [])
+first_built s ok k i marks is_up same_labels none made =
     let here : i.up.items ≡ all_used (links_of s.opening) MAX_LINKS = is_up ∙ ap (λ (boards : List Board). links_used (newest_of boards) (links_of s.opening)) k.boards in
     let whole = ap (λ (xs : List Bool). restrict xs s.opening.topology) here ∙ restrict_all s.opening.topology ok.opening.topology ok.opening.few_links in
-    ((marks, subst (λ (n : LabelOrder). IsMade n i.kind i.root (restrict i.up.items s.opening.topology) (Some s.opening.first)) (sym same_labels) (subst (λ (net : Topology). IsMade s.opening.labels i.kind i.root net (Some s.opening.first)) (sym whole) made), same_labels), tt)
+    ((marks, subst (λ (net : Topology). IsMade (labelled_by i) i.kind net (Some s.opening.first)) (sym whole) made, same_labels, λ _. none), tt)
 
 run_more : (o : Setting) (log mid later : List Entry) (steps : List Step) (s : Step) → IsControlRun o log steps mid → IsControlled o mid s later → IsControlRun o log (steps ++ s ∷ []) later
 run_more o log mid later [] s run next = (later, subst (λ (x : List Entry). IsControlled o x s later) run next, refl)

@@ -1,4 +1,5 @@
 pub mod Lists
+pub mod Labelled
 pub mod MarkWords
 pub mod Used
 pub mod Walks

@@ -95,9 +95,9 @@ opened_shows o = record {
 }
 
 -- a world's fields, as contracts see them
-abbrev pub made : Topology → LabelOrder → ℕ → ℕ → ℕ → List Board → List Plan → List ℕ → List (Option Held) → List (List ℕ) → List Record → World
-made net labels capacity max_packets restamps boards plans views hands channels records = record {
-  opening = record { topology = net; labels = labels; first = slice_index_or plans 0 no_plan; capacity = capacity; max_packets = max_packets; restamps = restamps };
+abbrev pub made : Topology → LabelOrder → Bool → ℕ → ℕ → ℕ → List Board → List Plan → List ℕ → List (Option Held) → List (List ℕ) → List Record → World
+made net labels keeps capacity max_packets restamps boards plans views hands channels records = record {
+  opening = record { topology = net; labels = labels; keeps = keeps; first = slice_index_or plans 0 no_plan; capacity = capacity; max_packets = max_packets; restamps = restamps };
   boards = boards;
   plans = plans;
   learnt = 1;
@@ -109,7 +109,7 @@ made net labels capacity max_packets restamps boards plans views hands channels 
 
 pub made_is : (o : Setting) (boards : List Board) (plans : List Plan) (views : List ℕ) (hands : List (Option Held)) (channels : List (List ℕ)) (records : List Record) →
     boards ≡ opening_board ∷ [] → plans ≡ o.first ∷ [] → views ≡ replicate (nodes_of o) 0 → hands ≡ replicate (nodes_of o) None → channels ≡ replicate (nodes_of o + 2 * links_of o) [] → records ≡ [] →
-    made o.topology o.labels o.capacity o.max_packets o.restamps boards plans views hands channels records ≡ opened o
+    made o.topology o.labels o.keeps o.capacity o.max_packets o.restamps boards plans views hands channels records ≡ opened o
 made_is o boards plans views hands channels records a b c d e f = rw (a, b, c, d, e, f) refl
 
 pub made_kept : (o : Setting) → IsSetting o → (s : World) → s ≡ opened o → IsWorld s
@@ -160,7 +160,7 @@ plan_refused opening accepted over same e is = here_refused opening accepted e (
 within : (n most : ℕ) → is_within n most ≡ true → (0 < n) × (n ≤ most)
 within n most e = let parts = both_true (not (n == 0)) (nat_le n most) e in let a = parts.0 in let b = parts.1 in (grind (arith, common_steps), grind (arith, common_steps))
 
-pub setting_is : (opening : Opening) (first : Plan) → ((e : OpenError) → open_refused opening ≡ Some e → ⊥) → IsMade opening.labels opening.kind opening.root opening.topology (Some first) → IsSetting (setting_of opening first)
+pub setting_is : (opening : Opening) (first : Plan) → ((e : OpenError) → open_refused opening ≡ Some e → ⊥) → IsMade (FromRoot opening.labels opening.root) opening.kind opening.topology (Some first) → IsSetting (setting_of opening first)
 setting_is opening first accepted made =
     let o = setting_of opening first in
     let parts = not_refused (node_count o.topology == 0) (nat_le (node_count o.topology) opening.root) (is_small opening) accepted in

@@ -1,6 +1,7 @@
 -- What the world's own functions answer to an event, by the world before and after it.
 use Rattle.std.specs.Prelude.{◌≡◌, ℕ, None, Result, Err, ◌⊎◌}
 use Rattle.ir_model.specs.declared.Kind.{Kind}
+use Rattle.ir_plan.specs.Building.{Labelling}
 use Rattle.ir_core.specs.declared.event.Event.{Event}
 use Rattle.ir_core.specs.declared.event.Reply.{Reply}
 use Rattle.ir_core.specs.declared.event.Refused.{Refused}
@@ -16,9 +17,9 @@ IsAnswerOr wanted old new result =
     IsAnswer old new wanted result ⊎ (AsksForMemory wanted × (result ≡ Err NoMemory) × (new ≡ old))
 
 -- an answer to an install
-abbrev pub IsInstallAnswer : World → World → Kind → ℕ → Result Reply Refused → Type 0
-IsInstallAnswer old new kind root result =
-    ((wanted : Result Entry Refused) × Installs old.opening (sight_in old) kind root wanted × IsAnswer old new wanted result)
+abbrev pub IsInstallAnswer : World → World → Labelling → Kind → ℕ → Result Reply Refused → Type 0
+IsInstallAnswer old new labels kind root result =
+    ((wanted : Result Entry Refused) × Installs old.opening (sight_in old) labels kind root wanted × IsAnswer old new wanted result)
     ⊎ ((install_refusal old.opening (sight_in old) root ≡ None) × (result ≡ Err NoMemory) × (new ≡ old))
 
 -- an answer to any event

@@ -11,6 +11,7 @@ world_of w = record {
   opening = record {
     topology = w.topology;
     labels = w.labels;
+    keeps = w.keeps;
     first = slice_index_or w.plans.items 0 no_plan;
     capacity = w.capacity;
     max_packets = w.max_packets;

@@ -1,10 +1,12 @@
 -- What the epochs of a list of steps are built from.
-use Rattle.std.specs.Prelude.{◌≡◌, ◌≢◌, ℕ, Bool, Some, Result, Err, List, [], ◌∷◌, length, All}
+use Rattle.std.specs.Prelude.{◌≡◌, ◌≢◌, ℕ, Bool, false, Some, None, Result, Err, List, [], ◌∷◌, length, All}
 use Rattle.std.specs.Global.{Vec}
 use Rattle.ir_model.specs.declared.Kind.{Kind}
+use Rattle.ir_model.specs.declared.Kind.TheVariants.{Tree}
 use Rattle.ir_model.specs.Topology.{restrict}
 use Rattle.ir_plan.specs.declared.tour.LabelOrder.TheVariants.{DepthFirst}
 use Rattle.ir_model.specs.Plan.{Plan}
+use Rattle.ir_plan.specs.Building.{Labelling}
 use Rattle.ir_core.specs.declared.event.Event.{Event}
 use Rattle.ir_core.specs.declared.event.Event.TheVariants as event
 use Rattle.ir_core.specs.declared.event.Step.{Step}
@@ -16,10 +18,12 @@ use Rattle.ir_core.specs.declared.opening.Opening.{Opening}
 use Rattle.ir_core.specs.declared.built.Install.{Install}
 use Rattle.ir_core.specs.Setting.{Setting, links_of}
 use Rattle.ir_core.specs.Opened.{IsOpenedWith}
+use Rattle.ir_core.specs.Board.{links_used}
+use Rattle.ir_core.specs.Drafts.{items_of, order_kept, labelling_by}
 use Rattle.ir_core.specs.Entry.{Entry}
 use Rattle.ir_core.specs.History as history
-use Rattle.ir_core.specs.Meaning.{IsMade, ComesTo, sight_after, with_entry}
-use Rattle.ir_core.specs.World.{World}
+use Rattle.ir_core.specs.Meaning.{IsMade, ComesTo, newest, newest_plan, sight_after, with_entry}
+use Rattle.ir_core.specs.World.{World, sight_in}
 use Rattle.ir_core.specs.Shows.{Shows}
 use Rattle.ir_core.specs.Run.{IsPlayed}
 
@@ -30,6 +34,7 @@ IsTaken setting log e later = (wanted : Result Entry Refused) × ComesTo setting
 -- The history after a step of which only the controller's are looked at: installs, retirements and marks of links.
 abbrev pub IsControlled : Setting → List Entry → Step → List Entry → Type 0
 IsControlled setting log (step.Event (event.Install kind root)) later = IsTaken setting log (event.Install kind root) later
+IsControlled setting log (step.Event (event.Renumber kind root)) later = IsTaken setting log (event.Renumber kind root) later
 IsControlled setting log (step.Event (event.Retire f)) later = IsTaken setting log (event.Retire f) later
 IsControlled setting log (step.Event (event.Down l)) later = IsTaken setting log (event.Down l) later
 IsControlled setting log (step.Event (event.Up l)) later = IsTaken setting log (event.Up l) later
@@ -48,13 +53,18 @@ IsControlRun setting log (s ∷ steps) later = (mid : List Entry) × IsControlle
 
 -- the install of a plan that is labelled depth first
 abbrev pub install_of : Kind → ℕ → Vec Bool → Install
-install_of kind root up = record { labels = DepthFirst; kind = kind; root = root; up = up }
+install_of kind root up = record { labels = DepthFirst; kind = kind; root = root; up = up; kept = None }
 
--- an epoch's plan is of this kind and root, over the links that are marked, labelled in the order of all; there is a mark
--- for each link
+-- by what the plan of an install is labelled
+abbrev pub labelled_by : Install → Labelling
+labelled_by i = labelling_by i.labels i.root (items_of i.kept)
+
+-- an epoch's plan is of this kind, over the links that are marked, labelled by the order that it kept, or else in the
+-- order of all; there is a mark for each link, and a tree keeps no order
 abbrev pub IsBuiltFrom : Setting → Install → Plan → Type 0
 IsBuiltFrom setting i plan =
-    (length i.up.items ≡ links_of setting) × IsMade i.labels i.kind i.root (restrict i.up.items setting.topology) (Some plan) × (i.labels ≡ setting.labels)
+    (length i.up.items ≡ links_of setting) × IsMade (labelled_by i) i.kind (restrict i.up.items setting.topology) (Some plan) × (i.labels ≡ setting.labels)
+    × (i.kind ≡ Tree → items_of i.kept ≡ None)
 
 abbrev pub AreBuiltFrom : Setting → List Install → List Plan → Type 0
 AreBuiltFrom setting [] [] = Unit {0}
@@ -91,6 +101,21 @@ ControlsOn s x installs new more =
     (new.opening ≡ s.opening) × ((log : List Entry) → Shows log s → AreBuiltFrom s.opening installs (history.plans s.opening log) →
     (later : List Entry) × IsControlled s.opening log x later × Shows later new × AreBuiltFrom s.opening more (history.plans s.opening later))
 
+-- what the plan of the next epoch is built from, where the order of the newest plan is kept or is not
+pub record IsNext (s : World) (keeps : Bool) (of : Kind) (from : ℕ) (i : Install) : Type 0 where
+  pub labels : i.labels ≡ s.opening.labels
+  pub kind : i.kind ≡ of
+  pub root : i.root ≡ from
+  pub count : length i.up.items ≡ links_of s.opening
+  pub up : i.up.items ≡ links_used (newest (sight_in s)) (links_of s.opening)
+  pub kept : items_of i.kept ≡ order_kept keeps of (newest_plan s.opening (sight_in s)).order
+
+-- what the plan of an event is built from, if it installs one
+abbrev pub IsInstallOf : World → Event → Install → Type 0
+IsInstallOf s (event.Install kind root) i = IsNext s s.opening.keeps kind root i
+IsInstallOf s (event.Renumber kind root) i = IsNext s false kind root i
+IsInstallOf s _ i = ⊥
+
 -- an event that changes a board and installs nothing
 abbrev pub IsPlainChange : Event → Type 0
 IsPlainChange (event.Retire f) = Unit {0}
@@ -99,6 +124,7 @@ IsPlainChange (event.Up l) = Unit {0}
 IsPlainChange (event.Avoid l) = Unit {0}
 IsPlainChange (event.Heed l) = Unit {0}
 IsPlainChange (event.Install kind root) = ⊥
+IsPlainChange (event.Renumber kind root) = ⊥
 IsPlainChange (event.Inject source dest) = ⊥
 IsPlainChange (event.Learn e) = ⊥
 IsPlainChange (event.Take u way) = ⊥

@@ -9,6 +9,7 @@ pub mod Record
 pub mod Recorded
 pub mod Setting
 pub mod Entry
+pub mod Drafts
 pub mod History
 pub mod Meaning
 pub mod Plain

@@ -5,8 +5,7 @@ use Rattle.ir_model.specs.declared.Kind.{Kind}
 use Rattle.ir_model.specs.Topology.{Topology, restrict}
 use Rattle.ir_model.specs.Walk.{IsDisconnected}
 use Rattle.ir_model.specs.Plan.{Plan}
-use Rattle.ir_plan.specs.declared.tour.LabelOrder.{LabelOrder}
-use Rattle.ir_plan.specs.Building.{FromRoot, IsPlanBy}
+use Rattle.ir_plan.specs.Building.{Labelling, FromRoot, IsPlanBy}
 use Rattle.ir_core.specs.declared.event.Way.{Way}
 use Rattle.ir_core.specs.declared.event.Way.TheVariants.{Inbox, Link}
 use Rattle.ir_core.specs.declared.event.Event.{Event}
@@ -21,6 +20,7 @@ use Rattle.ir_core.specs.Record.{Record, hop_room, stamp_of}
 use Rattle.ir_core.specs.Board.{opening_board, links_used, marked, heeding, retired_below, installed}
 use Rattle.ir_core.specs.Refusals.{inject_refused, retire_refused, mark_refused, heed_refused, install_refused}
 use Rattle.ir_core.specs.Setting.{Setting, nodes_of, links_of, channel_of, into}
+use Rattle.ir_core.specs.Drafts.{order_kept, labelling_by}
 use Rattle.ir_core.specs.Entry.{Entry, DidInject, DidLearn, DidTake, DidRead, DidAct, DidChange, DidInstall, judged, restamp_by, fresh}
 use Rattle.ir_core.specs.History as history
 
@@ -142,14 +142,21 @@ heeds setting s l heed = unless (heed_refused (links_of setting) (newest s) l he
 abbrev pub topology_up : Setting → Sight → Topology
 topology_up setting s = restrict (links_used (newest s) (links_of setting)) setting.topology
 
--- a plan of this kind and root over the network, labelled in this order, or none where the network is disconnected
-abbrev pub IsMade : LabelOrder → Kind → ℕ → Topology → Option Plan → Type 0
-IsMade labels kind root topology None = IsDisconnected topology
-IsMade labels kind root topology (Some plan) = IsPlanBy topology kind (FromRoot labels root) plan
+-- a plan of this kind over the network, labelled by these, or none where the network is disconnected
+abbrev pub IsMade : Labelling → Kind → Topology → Option Plan → Type 0
+IsMade labels kind topology None = IsDisconnected topology
+IsMade labels kind topology (Some plan) = IsPlanBy topology kind labels plan
 
--- two plans that are made of one network, kind, root and order of labels
-abbrev pub AreBothMade : LabelOrder → Kind → ℕ → Topology → Plan → Plan → Type 0
-AreBothMade labels kind root topology p q = IsMade labels kind root topology (Some p) × IsMade labels kind root topology (Some q)
+-- two plans of one network and kind that are labelled by the same
+abbrev pub AreBothMade : Labelling → Kind → Topology → Plan → Plan → Type 0
+AreBothMade labels kind topology p q = IsMade labels kind topology (Some p) × IsMade labels kind topology (Some q)
+
+abbrev pub newest_plan : Setting → Sight → Plan
+newest_plan setting s = plan_of setting s.plans (length s.plans)
+
+-- By what the plan of an install is labelled: by the order of the newest plan, where the setting keeps it.
+abbrev pub labelling_next : Setting → Sight → Kind → ℕ → Labelling
+labelling_next setting s kind root = labelling_by setting.labels root (order_kept setting.keeps kind (newest_plan setting s).order)
 
 -- the entry of an install, once the plan is made
 abbrev pub installs_made : Sight → Option Plan → Result Entry Refused
@@ -160,22 +167,24 @@ installs_made s (Some plan) = Ok (DidInstall (length s.plans + 1) plan (installe
 abbrev pub install_refusal : Setting → Sight → ℕ → Option Refused
 install_refusal setting s root = install_refused (nodes_of setting) (length s.plans) (newest s) root
 
-abbrev pub InstallsUnless : Setting → Sight → Kind → ℕ → Result Entry Refused → Option Refused → Type 0
-InstallsUnless setting s kind root wanted (Some e) = wanted ≡ Err e
-InstallsUnless setting s kind root wanted None = (made : Option Plan) × IsMade setting.labels kind root (topology_up setting s) made × (wanted ≡ installs_made s made)
+abbrev pub InstallsUnless : Setting → Sight → Labelling → Kind → Result Entry Refused → Option Refused → Type 0
+InstallsUnless setting s labels kind wanted (Some e) = wanted ≡ Err e
+InstallsUnless setting s labels kind wanted None = (made : Option Plan) × IsMade labels kind (topology_up setting s) made × (wanted ≡ installs_made s made)
 
-abbrev pub Installs : Setting → Sight → Kind → ℕ → Result Entry Refused → Type 0
-Installs setting s kind root wanted = InstallsUnless setting s kind root wanted (install_refusal setting s root)
+abbrev pub Installs : Setting → Sight → Labelling → Kind → ℕ → Result Entry Refused → Type 0
+Installs setting s labels kind root wanted = InstallsUnless setting s labels kind wanted (install_refusal setting s root)
 
 -- What an event comes to: its entry, or its first refusal. Of an install it says which plan is made, and the plan
--- is any of that kind and root over the links that are up and heeded, labelled in the order of the setting.
+-- is any of that kind over the links that are up and heeded, labelled as it says. To renumber is to label in the order of the
+-- setting from the root.
 abbrev pub ComesTo : Setting → Sight → Event → Result Entry Refused → Type 0
 ComesTo setting s (event.Inject source dest) wanted = wanted ≡ injects setting s source dest
 ComesTo setting s (event.Learn e) wanted = wanted ≡ learns s e
 ComesTo setting s (event.Take u way) wanted = wanted ≡ takes setting s u way
 ComesTo setting s (event.Read u k) wanted = wanted ≡ reads setting s u k
 ComesTo setting s (event.Act u) wanted = wanted ≡ acts setting s u
-ComesTo setting s (event.Install kind root) wanted = Installs setting s kind root wanted
+ComesTo setting s (event.Install kind root) wanted = Installs setting s (labelling_next setting s kind root) kind root wanted
+ComesTo setting s (event.Renumber kind root) wanted = Installs setting s (FromRoot setting.labels root) kind root wanted
 ComesTo setting s (event.Retire f) wanted = wanted ≡ retires s f
 ComesTo setting s (event.Down l) wanted = wanted ≡ marks setting s l false
 ComesTo setting s (event.Up l) wanted = wanted ≡ marks setting s l true

@@ -1,10 +1,11 @@
 -- How a world is opened.
-use Rattle.std.specs.Prelude.{◌≡◌, ℕ, Bool, not, ◌&&◌, nat_le, length, Option, Some, None, ◌⊎◌, if◌then◌else◌, ◌==◌}
+use Rattle.std.specs.Prelude.{◌≡◌, ℕ, Bool, false, not, ◌&&◌, nat_le, length, Option, Some, None, ◌⊎◌, if◌then◌else◌, ◌==◌}
 use Rattle.ir_model.specs.Topology.{Topology, node_count}
 use Rattle.ir_model.specs.Walk.{IsDisconnected}
 use Rattle.ir_model.specs.Plan.{Plan}
 use Rattle.ir_model.specs.declared.Kind.{Kind}
 use Rattle.ir_plan.specs.declared.tour.LabelOrder.TheVariants.{DepthFirst}
+use Rattle.ir_plan.specs.Building.{FromRoot}
 use Rattle.ir_core.specs.declared.TheConstants.{MAX_NODES, MAX_LINKS, MAX_CAPACITY, MAX_PACKETS, MAX_RESTAMPS}
 use Rattle.ir_core.specs.declared.opening.Opening.{Opening}
 use Rattle.ir_core.specs.declared.event.OpenError.{OpenError}
@@ -17,6 +18,7 @@ abbrev pub opening_of : Topology → Kind → (root capacity max_packets restamp
 opening_of topology kind root capacity max_packets restamps = record {
   topology = topology;
   labels = DepthFirst;
+  keeps = false;
   kind = kind;
   root = root;
   capacity = capacity;
@@ -47,6 +49,7 @@ abbrev pub setting_of : Opening → Plan → Setting
 setting_of opening first = record {
   topology = opening.topology;
   labels = opening.labels;
+  keeps = opening.keeps;
   first = first;
   capacity = opening.capacity;
   max_packets = opening.max_packets;
@@ -57,10 +60,11 @@ setting_of opening first = record {
 pub record IsOpenedWith (opening : Opening) (setting : Setting) : Type 0 where
   pub topology : setting.topology ≡ opening.topology
   pub labels : setting.labels ≡ opening.labels
+  pub keeps : setting.keeps ≡ opening.keeps
   pub capacity : setting.capacity ≡ opening.capacity
   pub max_packets : setting.max_packets ≡ opening.max_packets
   pub restamps : setting.restamps ≡ opening.restamps
-  pub first : IsMade opening.labels opening.kind opening.root opening.topology (Some setting.first)
+  pub first : IsMade (FromRoot opening.labels opening.root) opening.kind opening.topology (Some setting.first)
 
 -- an opening is refused as this
 abbrev pub IsRefusedAs : Topology → OpenError → Option OpenError → Type 0

@@ -1,5 +1,5 @@
 -- What a world was opened with, and the numbers of its channels.
-use Rattle.std.specs.Prelude.{◌≡◌, ℕ, ◌+◌, ◌*◌, ◌<◌, ◌≤◌, [], length, slice_get, Option, Some, None, unwrap_or, if◌then◌else◌, ◌==◌}
+use Rattle.std.specs.Prelude.{◌≡◌, ℕ, Bool, ◌+◌, ◌*◌, ◌<◌, ◌≤◌, [], length, slice_get, Option, Some, None, unwrap_or, if◌then◌else◌, ◌==◌}
 use Rattle.ir_model.specs.declared.Link.{Link as Edge}
 use Rattle.ir_model.specs.declared.Hop.{Hop}
 use Rattle.ir_model.specs.declared.Kind.TheVariants.{Tree}
@@ -10,11 +10,12 @@ use Rattle.ir_core.specs.declared.TheConstants.{MAX_NODES, MAX_LINKS, MAX_CAPACI
 use Rattle.ir_core.specs.declared.event.Way.{Way}
 use Rattle.ir_core.specs.declared.event.Way.TheVariants.{Inbox, Link}
 
--- A network, the order in which its plans are labelled, the plan of its first epoch, the capacity of each channel, the
--- most packets, and the most restamps of a packet.
+-- A network, the order in which its plans are labelled, whether an install keeps that of the epoch before, the plan of
+-- its first epoch, the capacity of each channel, the most packets, and the most restamps of a packet.
 pub record Setting : Type 0 where
   pub topology : Topology
   pub labels : LabelOrder
+  pub keeps : Bool
   pub first : Plan
   pub capacity : ℕ
   pub max_packets : ℕ

@@ -38,6 +38,7 @@ AsksForMemory (Err e) = e ≡ InboxFull
 abbrev pub MayWantMemory : Setting → Sight → Event → Type 0
 MayWantMemory setting s (event.Inject source dest) = AsksForMemory (injects setting s source dest)
 MayWantMemory setting s (event.Install kind root) = install_refusal setting s root ≡ None
+MayWantMemory setting s (event.Renumber kind root) = install_refusal setting s root ≡ None
 MayWantMemory setting s (event.Retire f) = AsksForMemory (retires s f)
 MayWantMemory setting s (event.Down l) = AsksForMemory (marks setting s l false)
 MayWantMemory setting s (event.Up l) = AsksForMemory (marks setting s l true)

@@ -4,7 +4,9 @@ ghost use Rattle.ir_core.specs.declared.event.Step.TheVariants as step;
 ghost use Rattle.ir_core.specs.{declared.event.Refused.TheVariants.NoMemory, declared.built.Install.Install};
 ghost use Rattle.ir_core.specs.{Meaning.IsMade, History.plans, Shows.Shows};
 ghost use Rattle.ir_core.specs.Opened.{IsOpenedWith, IsOpenRefusal, open_refused};
-ghost use Rattle.ir_core.specs.Installed.{AreInstallsOf, AreInstallsWithPlans, AreBuiltFrom, ControlsOn, IsPlainChange, install_of};
+ghost use Rattle.ir_core.specs.Installed.{AreInstallsOf, AreInstallsWithPlans, AreBuiltFrom, ControlsOn};
+ghost use Rattle.ir_core.specs.Installed.{IsPlainChange, IsNext, IsInstallOf, install_of};
+ghost use Rattle.ir_plan.specs.Building.{FromRoot};
 
 use crate::event::{Event, OpenError, Refused, Reply, Step};
 use crate::opening::{Opening, open_refusal};
@@ -14,13 +16,15 @@ use ir_plan::{Alone, Crew, LabelOrder, Plan};
 use std::alloc::Global;
 
 /// What an epoch's plan was built from: the order in which it is labelled, its kind and root, and for each link of the
-/// network whether it was used: it was up and heeded.
+/// network whether it was used: it was up and heeded. Where it kept the order of the epoch before, these are the nodes
+/// by label; its root is then the first of them.
 #[derive(Drop)]
 pub struct Install {
     pub labels: LabelOrder,
     pub kind: Kind,
     pub root: u16,
     pub up: Vec<bool>,
+    pub kept: Option<Vec<u16>>,
 }
 
 impl Install {
@@ -34,6 +38,7 @@ impl Install {
             kind,
             root,
             up,
+            kept: None,
         }
     }
 }
@@ -112,7 +117,7 @@ fn first_install(
     root: u16,
 ) -> Result<Vec<Install>, OpenError>
     requires history { Shows [] world.now }
-    requires made { IsMade world.now.opening.labels kind root
+    requires made { IsMade (FromRoot world.now.opening.labels root) kind
         world.now.opening.topology (Some world.now.opening.first) }
     ensures built { IfOk result (λ v. AreBuiltFrom world.now.opening v.items (plans world.now.opening [])) }
     ensures refused { IfErr result (λ e. e ≡ OpenError.NoMemory) }
@@ -130,6 +135,7 @@ fn first_install(
         kind,
         root,
         up,
+        kept: None,
     }) {
         Ok(()) => Ok(built),
         Err(_) => Err(OpenError::NoMemory),
@@ -163,7 +169,14 @@ fn control_event(
     ensures { IfOk result (λ _. ControlsOn world.old (step.Event event) built.old.items world.new built.new.items) }
 {
     match event {
-        Event::Install(kind, root) => install_next(crew, alloc, world, kind, root, built),
+        Event::Install(kind, root) => {
+            let next = next_install(alloc, world, world.keeps(), kind, root)?;
+            install_next(crew, world, event, next, built)
+        }
+        Event::Renumber(kind, root) => {
+            let next = next_install(alloc, world, false, kind, root)?;
+            install_next(crew, world, event, next, built)
+        }
         Event::Retire(floor) => change(crew, world, Event::Retire(floor)),
         Event::Down(link) => change(crew, world, Event::Down(link)),
         Event::Up(link) => change(crew, world, Event::Up(link)),
@@ -190,35 +203,51 @@ fn change(crew: &impl Crew, world: &mut World, event: Event) -> Result<(), OpenE
     }
 }
 
-/// An install, with the links that are used before it.
-fn install_next(
-    crew: &impl Crew,
+/// What the next epoch's plan is built from, over the links that are used.
+fn next_install(
     alloc: Global,
-    world: &mut World,
+    world: &World,
+    keeps: bool,
     kind: Kind,
     root: u16,
-    built: &mut Vec<Install>,
-) -> Result<(), OpenError>
-    ensures { IfOk result (λ _. ControlsOn world.old
-        (step.Event (event.Install kind root)) built.old.items world.new built.new.items) }
+) -> Result<Install, OpenError>
+    ensures { IfOk result (IsNext world.now keeps kind root) }
 {
     let Ok(up) = world.used(alloc) else {
         return Err(OpenError::NoMemory);
     };
+    let Ok(kept) = world.order_kept(alloc, keeps, kind) else {
+        return Err(OpenError::NoMemory);
+    };
     let labels = world.labels();
-    let reply = world.apply_by(crew, Event::Install(kind, root));
+    Ok(Install {
+        labels,
+        kind,
+        root,
+        up,
+        kept,
+    })
+}
+
+/// An install of this epoch, if it is accepted.
+fn install_next(
+    crew: &impl Crew,
+    world: &mut World,
+    event: Event,
+    next: Install,
+    built: &mut Vec<Install>,
+) -> Result<(), OpenError>
+    requires next { IsInstallOf world.old event next }
+    ensures { IfOk result (λ _. ControlsOn world.old (step.Event event) built.old.items world.new built.new.items) }
+{
+    let reply = world.apply_by(crew, event);
     let Ok(new) = accepted(reply) else {
         return Err(OpenError::NoMemory);
     };
     if !new {
         return Ok(());
     }
-    let Ok(()) = built.push(Install {
-        labels,
-        kind,
-        root,
-        up,
-    }) else {
+    let Ok(()) = built.push(next) else {
         return Err(OpenError::NoMemory);
     };
     Ok(())

@@ -8,6 +8,8 @@ pub enum Command {
     Inject(u16, u16),
     /// Installs a plan of this kind and root over the links that are up and heeded.
     Install(Kind, u16),
+    /// The same, but that it is labelled anew, also where installs keep the order of the epoch before.
+    Renumber(Kind, u16),
     /// Retires the epochs below this one.
     Retire(u32),
     /// Marks a link as down.

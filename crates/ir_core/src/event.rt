@@ -29,6 +29,8 @@ pub enum Event {
     Act(u16),
     /// A plan of a kind and root over the links that are up and heeded becomes the current epoch.
     Install(Kind, u16),
+    /// The same, but that it is labelled anew, also where installs keep the order of the epoch before.
+    Renumber(Kind, u16),
     /// The epochs below this one are retired.
     Retire(u32),
     /// A link goes down.

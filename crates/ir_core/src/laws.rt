@@ -12,7 +12,7 @@ ghost use Rattle.ir_core.specs.Meaning.{AreBothMade};
 ghost use Rattle.ir_model.specs.{Plan.{Plan, table_port}, Table.IsPrescribedWalk, Topology.{Topology, node_count}};
 ghost use Rattle.ir_model.specs.Row.{Start};
 ghost use Rattle.ir_model.specs.declared.Kind.{Kind, TheVariants.Tree};
-ghost use Rattle.ir_plan.specs.{declared.tour.LabelOrder.LabelOrder, Starts.HaveSameTable};
+ghost use Rattle.ir_plan.specs.{Building.Labelling, Starts.HaveSameTable};
 
 /// A law of the definitions: a network that allows no restamp reads as one that knows of none. What
 /// a node makes of a packet of one epoch is the verdict by that epoch. So an Act after a history
@@ -44,18 +44,18 @@ pub fn drops_for_used_links()
     ensures avoided { IsSoInRuns AreNoDropsForAvoided }
 {}
 
-/// A law of plans: two plans of one kind and root over one network, labelled in one order, have the
+/// A law of plans: two plans of one kind over one network that are labelled by the same have the
 /// same labels; the same table and rows too, where the kind is not Tree. So a run and its check go
 /// by the same ways.
 pub fn made_plan_is_determined()
-    ensures order { (labels : LabelOrder) (kind : Kind) (root : ℕ) (topology : Topology) (p q : Plan)
-        → AreBothMade labels kind root topology p q → p.order ≡ q.order }
-    ensures labels { (labels : LabelOrder) (kind : Kind) (root : ℕ) (topology : Topology) (p q : Plan)
-        → AreBothMade labels kind root topology p q → p.labels ≡ q.labels }
-    ensures tables { (labels : LabelOrder) (kind : Kind) (root : ℕ) (topology : Topology) (p q : Plan) → kind ≢ Tree
-        → AreBothMade labels kind root topology p q → HaveSameTable (node_count topology) p q }
-    ensures rows { (labels : LabelOrder) (kind : Kind) (root : ℕ) (topology : Topology) (p q : Plan) → kind ≢ Tree
-        → AreBothMade labels kind root topology p q → p.rows ≡ q.rows }
+    ensures order { (labels : Labelling) (kind : Kind) (topology : Topology) (p q : Plan)
+        → AreBothMade labels kind topology p q → p.order ≡ q.order }
+    ensures labels { (labels : Labelling) (kind : Kind) (topology : Topology) (p q : Plan)
+        → AreBothMade labels kind topology p q → p.labels ≡ q.labels }
+    ensures tables { (labels : Labelling) (kind : Kind) (topology : Topology) (p q : Plan) → kind ≢ Tree
+        → AreBothMade labels kind topology p q → HaveSameTable (node_count topology) p q }
+    ensures rows { (labels : Labelling) (kind : Kind) (topology : Topology) (p q : Plan) → kind ≢ Tree
+        → AreBothMade labels kind topology p q → p.rows ≡ q.rows }
 {}
 
 /// A law of nodes that may lack their row of a packet's epoch, as routers on many machines do: each

@@ -1,5 +1,5 @@
 //! What a network is opened with, and which openings are refused.
-ghost use Rattle.std.specs.Prelude.{◌≡◌, IfOk};
+ghost use Rattle.std.specs.Prelude.{◌≡◌, IfOk, true};
 ghost use Rattle.ir_core.specs.Opened.{is_small, open_refused, opening_of};
 
 use crate::event::OpenError;
@@ -10,14 +10,15 @@ use ir_tables::Topology;
 use std::alloc::{AllocError, Global};
 
 /// What a world or a net is opened with: a topology, the order in which each epoch's plan is
-/// labelled, and the kind and root of epoch 1's plan. Further the capacity of each channel and
-/// inbox, from 1 to 1,024 packets, the most packets, from 1 to 4,096, and the most restamps of a
-/// packet, from 0 to 3.
-/// 3. The topology has at most 1,024 nodes and 8,192 links.
+/// labelled, whether an install keeps that of the epoch before, and the kind and root of epoch 1's
+/// plan. Further the capacity of each channel and inbox, from 1 to 1,024 packets, the most packets,
+/// from 1 to 4,096, and the most restamps of a packet, from 0 to 3. The topology has at most 1,024
+/// nodes and 8,192 links.
 #[derive(Drop)]
 pub struct Opening {
     pub topology: Topology,
     pub labels: LabelOrder,
+    pub keeps: bool,
     pub kind: Kind,
     pub root: u16,
     pub capacity: usize,
@@ -40,11 +41,23 @@ impl Opening {
         Opening {
             topology,
             labels: LabelOrder::DepthFirst,
+            keeps: false,
             kind,
             root,
             capacity,
             max_packets,
             restamps,
+        }
+    }
+
+    /// The same opening, but that each install keeps the order of the epoch before. For users of the
+    /// library.
+    pub fn keeping(self) -> Opening
+        ensures { result ≡ record self { keeps = true } }
+    {
+        Opening {
+            keeps: true,
+            ..self
         }
     }
 
@@ -55,6 +68,7 @@ impl Opening {
         Ok(Opening {
             topology: self.topology.try_clone(alloc)?,
             labels: self.labels,
+            keeps: self.keeps,
             kind: self.kind,
             root: self.root,
             capacity: self.capacity,

@@ -4,7 +4,8 @@ ghost use Rattle.ir_core.specs.declared.TheConstants.{MAX_LINKS, MAX_CHANGES};
 ghost use Rattle.ir_core.specs.World.{World, IsWorld, IsBoard, sight_in, IsAnswer, open_verdict_on, LeadsIn};
 ghost use Rattle.ir_core.specs.{Inside.{world_of, IsWorldKept}, Setting.{IsSetting, nodes_of, links_of}};
 ghost use Rattle.ir_core.specs.Opened.{IsOpenedWith, IsOpenRefusal, opening_of, setting_of};
-ghost use Rattle.ir_core.specs.Meaning.{newest, learns, reads, takes, acts, retires, marks, heeds, injects, verdict_on, ruling_on, record_at, board_at, is_full_towards, plan_of};
+ghost use Rattle.ir_core.specs.Meaning.{newest, newest_plan, learns, reads, takes, acts, retires, marks, heeds, injects, verdict_on, ruling_on, record_at, board_at, is_full_towards, plan_of};
+ghost use Rattle.ir_core.specs.Drafts.{items_of, labelling_by, order_kept};
 ghost use Rattle.ir_core.specs.{Record.stamp_of, Entry.Entry, History.boards, Shows.{Shows, AnswersAfter}};
 ghost use Rattle.ir_core.specs.{Run.StepsAfter, Sound.AllSound, Handled.{IsAnswerOr, IsAnswerTo, IsInstallAnswer}};
 ghost use Rattle.ir_core.specs.{declared.event.Way.TheVariants.{Link as WayLink}, Opened.open_refused};
@@ -14,7 +15,7 @@ use crate::board::{Board, KeptBoard};
 use crate::event::{Event, OpenError, Refused, Reply, Ruling, Step, Verdict, Way};
 use crate::opening::{Opening, open_refusal};
 use crate::packet::{Held, Record, hop_room};
-use crate::planning::{Draft, plan_over_by, plan_up_by};
+use crate::planning::{Draft, order_kept, plan_over_by, plan_up_by};
 use crate::queue::Queue;
 use crate::verdict::judge;
 use ir_model::{Hop, Kind};
@@ -39,6 +40,7 @@ pub struct World {
     alloc: Global,
     topology: Topology,
     labels: LabelOrder,
+    keeps: bool,
     capacity: usize,
     max_packets: usize,
     restamps: u8,
@@ -114,6 +116,7 @@ impl World {
             labels: opening.labels,
             kind: opening.kind,
             root: opening.root,
+            kept: None,
         };
         let plan = plan_over_by(crew, alloc, over, draft)?;
         match World::start(alloc, opening, plan) {
@@ -135,6 +138,7 @@ impl World {
         let Opening {
             topology,
             labels,
+            keeps,
             kind: _,
             root: _,
             capacity,
@@ -145,6 +149,7 @@ impl World {
             alloc,
             topology,
             labels,
+            keeps,
             capacity,
             max_packets,
             restamps,
@@ -228,16 +233,30 @@ impl World {
 
     /// A plan over the links that are up and heeded becomes the current epoch. It is made, and all memory is
     /// taken, before anything changes.
-    fn install(&mut self, crew: &impl Crew, kind: Kind, root: u16) -> Result<Reply, Refused>
-        ensures { IsInstallAnswer self.old self.new kind root result }
+    fn install(
+        &mut self,
+        crew: &impl Crew,
+        keeps: bool,
+        kind: Kind,
+        root: u16,
+    ) -> Result<Reply, Refused>
+        ensures { IsInstallAnswer self.old self.new (labelling_by self.old.opening.labels root
+            (order_kept keeps kind (newest_plan self.old.opening (sight_in self.old)).order)) kind root result }
     {
         let epochs = self.plans.len();
         let newest = self.newest();
         if let Some(error) = newest.install_refusal(self.topology.nodes(), epochs, root) {
             return Err(error);
         }
-        let labels = self.labels;
-        let draft = Draft { labels, kind, root };
+        let Ok(kept) = self.order_kept(self.alloc, keeps, kind) else {
+            return Err(Refused::NoMemory);
+        };
+        let draft = Draft {
+            labels: self.labels,
+            kind,
+            root,
+            kept,
+        };
         let plan = plan_up_by(crew, self.alloc, &self.topology, &newest, draft)?;
         let epoch = epochs as u32 + 1;
         let board = newest.installed(epoch);
@@ -444,10 +463,10 @@ impl World {
     }
 
     /// One event. The reply is that of the event's meaning after the history, or its first refusal;
-    /// a refused event changes nothing. Want of memory is answered at Inject, Install, Retire, Down,
-    /// Up, Avoid and Heed alone. The plan of an install is made on the thread that calls. Act takes O(log k),
-    /// for k starts of a row, Install as long as `plan_up_by`, and each other event constant time.
-    /// For users of the library.
+    /// a refused event changes nothing. Want of memory is answered at Inject, Install, Renumber,
+    /// Retire, Down, Up, Avoid and Heed alone. The plan of an install is made on the thread that
+    /// calls. Act takes O(log k), for k starts of a row, Install and Renumber as long as
+    /// `plan_up_by`, and each other event constant time. For users of the library.
     pub fn apply(&mut self, event: Event) -> Result<Reply, Refused>
         ensures history { (log : List Entry) → Shows log self.old
             → AnswersAfter log event result self.old.opening self.new }
@@ -494,7 +513,11 @@ impl World {
             Event::Take(node, way) => self.take(node, way),
             Event::Read(node, version) => self.read(node, version),
             Event::Act(node) => self.act(node),
-            Event::Install(kind, root) => self.install(crew, kind, root),
+            Event::Install(kind, root) => {
+                let keeps = self.keeps();
+                self.install(crew, keeps, kind, root)
+            }
+            Event::Renumber(kind, root) => self.install(crew, false, kind, root),
             Event::Retire(floor) => self.retire(floor),
             Event::Down(link) => self.mark(link, false),
             Event::Up(link) => self.mark(link, true),
@@ -539,6 +562,28 @@ impl World {
         ensures { result ≡ self.now.opening.labels }
     {
         self.labels
+    }
+
+    /// Whether an install keeps the order of the epoch before.
+    pub(crate) fn keeps(&self) -> bool
+        ensures { result ≡ self.now.opening.keeps }
+    {
+        self.keeps
+    }
+
+    /// The nodes by label that the next plan of a kind keeps, where orders are kept.
+    pub(crate) fn order_kept(
+        &self,
+        alloc: Global,
+        keeps: bool,
+        kind: Kind,
+    ) -> Result<Option<Vec<u16>>, AllocError>
+        ensures { IfOk result (λ kept. items_of kept ≡ order_kept keeps kind
+            (newest_plan self.now.opening (sight_in self.now)).order) }
+    {
+        self.invariant();
+        let newest = self.plan_of(self.plans.len() as u32);
+        order_kept(alloc, keeps, kind, newest)
     }
 
     /// For each link of the network whether an install uses it, by the newest board.

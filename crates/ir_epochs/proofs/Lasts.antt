@@ -25,8 +25,11 @@ stamp_from : (o : Option Stamp) (xs : List Entry) (c : Change) → fold stamped 
 stamp_from o [] c = refl
 stamp_from o (x ∷ xs) c = stamp_from (stamped o x) xs c
 
+pub stamp_more : (xs : List Entry) (c : Change) → installed_stamp (xs ++ Changed c ∷ []) ≡ stamp_next (installed_stamp xs) c
+stamp_more = stamp_from None
+
 stamp_last : (xs : List Entry) (c : Change) (s : Stamp) → installed_stamp xs ≡ Some s → installed_stamp (xs ++ Changed c ∷ []) ≡ Some (stamp_after s c)
-stamp_last xs c s is = stamp_from None xs c ∙ ap (λ (o : Option Stamp). stamp_next o c) is ∙ some_after c
+stamp_last xs c s is = stamp_more xs c ∙ ap (λ (o : Option Stamp). stamp_next o c) is ∙ some_after c
   where
     some_after : (c : Change) → stamp_next (Some s) c ≡ Some (stamp_after s c)
     some_after (Install t) = refl

@@ -185,7 +185,7 @@ impl<R: Wait + Drop> Drop for BoardWriter<R> {
 
 impl<R: Wait + Drop> BoardWriter<R> {
     ghost use Rattle.ir_epochs.specs.declared.entry.Entry.TheVariants.{Opened, Changed};
-    ghost use Rattle.ir_epochs.specs.Entries.{MayComeNext, HasLiveEpochs};
+    ghost use Rattle.ir_epochs.specs.Entries.{MayComeNext, HasLiveEpochs, IsCurrent};
     ghost use Rattle.ir_epochs.specs.Handles.{published, known, told, writer_board, reader_board, receipt_board};
 
     // A board that was just opened, with places for so many readers, of which there is one at least.
@@ -229,6 +229,13 @@ impl<R: Wait + Drop> BoardWriter<R> {
         ensures live { HasLiveEpochs result }
     {
         self.writer.published().board
+    }
+
+    /// The stamp of the board's current epoch. It takes no memory and waits for nobody.
+    pub fn stamp(&self) -> Stamp
+        ensures { IsCurrent (published self.now) result }
+    {
+        self.writer.published().stamp.again()
     }
 
     /// Publishes one change, which is then the last entry. The change is one that may come next.

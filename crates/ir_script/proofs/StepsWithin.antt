@@ -12,7 +12,7 @@ use Rattle.ir_model.specs.Text.{content, words, is_plain}
 use Rattle.ir_model.specs.Topology.{Topology, IsTopology, node_count, ports_of}
 use Rattle.ir_core.specs.declared.event.Way.TheVariants.{Inbox, Link}
 use Rattle.ir_core.specs.declared.event.Event.{Event}
-use Rattle.ir_core.specs.declared.event.Event.TheVariants.{Inject, Learn, Take, Read, Act, Install, Retire, Down, Up, Avoid, Heed}
+use Rattle.ir_core.specs.declared.event.Event.TheVariants.{Inject, Learn, Take, Read, Act, Install, Renumber, Retire, Down, Up, Avoid, Heed}
 use Rattle.ir_core.specs.declared.event.Step.{Step}
 use Rattle.ir_core.specs.declared.event.Step.TheVariants as step
 use Rattle.ir_script.specs.declared.fault.ScriptFault.{ScriptFault}
@@ -71,6 +71,10 @@ module _ (detour : Detour) (nodes : List Name) (net : Topology) (is_net : IsTopo
   of_two_within event (Ok m) (Err e) h = tt
   of_two_within event (Ok m) (Ok n) h = h m n refl refl
 
+  kind_within : (event : Kind → ℕ → Event) (kind : Result Kind ScriptFault) (x : Result ℕ ScriptFault) → ((k : Kind) (n : ℕ) → x ≡ Ok n → is_event_within net (event k n) ≡ true) → EventWithin (of_kind event kind x)
+  kind_within event (Err e) x h = tt
+  kind_within event (Ok kind) x h = of_one_within (λ r. event kind r) x (h kind)
+
   either_within : (t : Bool) (a b : Result Event ScriptFault) → EventWithin a → EventWithin b → EventWithin (cond t a b)
   either_within true a b ha hb = ha
   either_within false a b ha hb = hb
@@ -90,10 +94,8 @@ module _ (detour : Detour) (nodes : List Name) (net : Topology) (is_net : IsTopo
       (either_within (bytes_eq word (codes "heed")) _ _ (of_one_within (λ l. Heed l) (named_link nodes net a b) (link_within a b))
       (either_within (bytes_eq word (codes "read")) _ _ (of_two_within (λ u k. Read u k) (node_of nodes a) (number_of b) (λ u k hu hk. node_within a u hu))
       (either_within (bytes_eq word (codes "take") && bytes_eq b (codes "inbox")) _ _ (of_one_within (λ u. Take u Inbox) (node_of nodes a) (λ u hu. and_from _ _ (node_within a u hu) refl))
-      (either_within (bytes_eq word (codes "install") && bytes_eq a (codes "tree")) _ _ (of_one_within (λ r. Install Tree r) (node_of nodes b) (node_within b))
-      (either_within (bytes_eq word (codes "install") && bytes_eq a (codes "shortest")) _ _ (of_one_within (λ r. Install Shortest r) (node_of nodes b) (node_within b))
-      (either_within (bytes_eq word (codes "install") && bytes_eq a (codes "compact")) _ _ (of_one_within (λ r. Install Compact r) (node_of nodes b) (node_within b))
-      (either_within (bytes_eq word (codes "install") && bytes_eq a (codes "landmark")) _ _ (of_one_within (λ r. Install (Landmark detour) r) (node_of nodes b) (node_within b)) tt))))))))))
+      (either_within (bytes_eq word (codes "install")) _ _ (kind_within (λ kind r. Install kind r) (kind_named detour a) (node_of nodes b) (λ kind r at. node_within b r at))
+      (either_within (bytes_eq word (codes "renumber")) _ _ (kind_within (λ kind r. Renumber kind r) (kind_named detour a) (node_of nodes b) (λ kind r at. node_within b r at)) tt))))))))
 
   three_within : (word a b c : Name) → EventWithin (event_of_three nodes net word a b c)
   three_within word a b c =

@@ -10,7 +10,7 @@ use Rattle.ir_model.specs.Edgelist.{is_digit, value_of}
 use Rattle.ir_model.specs.Topology.{Topology, ports_of}
 use Rattle.ir_core.specs.declared.event.Way.TheVariants.{Inbox, Link}
 use Rattle.ir_core.specs.declared.event.Event.{Event}
-use Rattle.ir_core.specs.declared.event.Event.TheVariants.{Inject, Learn, Take, Read, Act, Install, Retire, Down, Up, Avoid, Heed}
+use Rattle.ir_core.specs.declared.event.Event.TheVariants.{Inject, Learn, Take, Read, Act, Install, Renumber, Retire, Down, Up, Avoid, Heed}
 use Rattle.ir_core.specs.declared.event.Step.{Step}
 use Rattle.ir_core.specs.declared.event.Step.TheVariants as step
 use Rattle.ir_core.specs.declared.command.Command.{Command}
@@ -80,8 +80,21 @@ event_of_one nodes command first =
     else if bytes_eq command (codes "retire") then of_one (λ f. Retire f) (number_of first)
     else Err BadCommand
 
--- `inject A B`, `down A B`, `up A B`, `avoid A B`, `heed A B`, `read N K`, `take N inbox`, `install tree R`,
--- `install shortest R`, `install compact R`, `install landmark R`, whose ways go round so far
+-- the kind that a word names; landmark plans go round so far
+abbrev pub kind_named : Detour → Name → Result Kind ScriptFault
+kind_named detour word =
+    if bytes_eq word (codes "tree") then Ok Tree
+    else if bytes_eq word (codes "shortest") then Ok Shortest
+    else if bytes_eq word (codes "compact") then Ok Compact
+    else if bytes_eq word (codes "landmark") then Ok (Landmark detour)
+    else Err BadCommand
+
+-- an event of a kind and a root
+abbrev pub of_kind : (Kind → ℕ → Event) → Result Kind ScriptFault → Result ℕ ScriptFault → Result Event ScriptFault
+of_kind event (Err e) root = Err e
+of_kind event (Ok kind) root = of_one (λ r. event kind r) root
+
+-- `inject A B`, `down A B`, `up A B`, `avoid A B`, `heed A B`, `read N K`, `take N inbox`, `install KIND R`, `renumber KIND R`
 abbrev pub event_of_two : Detour → List Name → Topology → Name → Name → Name → Result Event ScriptFault
 event_of_two detour nodes net command first second =
     if bytes_eq command (codes "inject") then of_two (λ u v. Inject u v) (node_of nodes first) (node_of nodes second)
@@ -91,10 +104,8 @@ event_of_two detour nodes net command first second =
     else if bytes_eq command (codes "heed") then of_one (λ l. Heed l) (named_link nodes net first second)
     else if bytes_eq command (codes "read") then of_two (λ u k. Read u k) (node_of nodes first) (number_of second)
     else if bytes_eq command (codes "take") && bytes_eq second (codes "inbox") then of_one (λ u. Take u Inbox) (node_of nodes first)
-    else if bytes_eq command (codes "install") && bytes_eq first (codes "tree") then of_one (λ r. Install Tree r) (node_of nodes second)
-    else if bytes_eq command (codes "install") && bytes_eq first (codes "shortest") then of_one (λ r. Install Shortest r) (node_of nodes second)
-    else if bytes_eq command (codes "install") && bytes_eq first (codes "compact") then of_one (λ r. Install Compact r) (node_of nodes second)
-    else if bytes_eq command (codes "install") && bytes_eq first (codes "landmark") then of_one (λ r. Install (Landmark detour) r) (node_of nodes second)
+    else if bytes_eq command (codes "install") then of_kind (λ kind r. Install kind r) (kind_named detour first) (node_of nodes second)
+    else if bytes_eq command (codes "renumber") then of_kind (λ kind r. Renumber kind r) (kind_named detour first) (node_of nodes second)
     else Err BadCommand
 
 -- `take N from M`
@@ -131,6 +142,7 @@ is_of_simulation word = bytes_eq word (codes "learn") || bytes_eq word (codes "t
 abbrev pub command_of : Step → Result Command ScriptFault
 command_of (step.Event (Inject u v)) = Ok (command.Inject u v)
 command_of (step.Event (Install kind r)) = Ok (command.Install kind r)
+command_of (step.Event (Renumber kind r)) = Ok (command.Renumber kind r)
 command_of (step.Event (Retire f)) = Ok (command.Retire f)
 command_of (step.Event (Down l)) = Ok (command.Down l)
 command_of (step.Event (Up l)) = Ok (command.Up l)

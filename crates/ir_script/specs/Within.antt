@@ -4,7 +4,7 @@ use Rattle.ir_model.specs.Topology.{Topology, node_count}
 use Rattle.ir_core.specs.declared.event.Way.{Way}
 use Rattle.ir_core.specs.declared.event.Way.TheVariants.{Inbox, Link}
 use Rattle.ir_core.specs.declared.event.Event.{Event}
-use Rattle.ir_core.specs.declared.event.Event.TheVariants.{Inject, Learn, Take, Read, Act, Install, Retire, Down, Up, Avoid, Heed}
+use Rattle.ir_core.specs.declared.event.Event.TheVariants.{Inject, Learn, Take, Read, Act, Install, Renumber, Retire, Down, Up, Avoid, Heed}
 use Rattle.ir_core.specs.declared.event.Step.{Step}
 use Rattle.ir_core.specs.declared.event.Step.TheVariants as step
 
@@ -29,6 +29,7 @@ is_event_within net (Take u way) = is_node_of net u && is_way_within net way
 is_event_within net (Read u k) = is_node_of net u
 is_event_within net (Act u) = is_node_of net u
 is_event_within net (Install kind r) = is_node_of net r
+is_event_within net (Renumber kind r) = is_node_of net r
 is_event_within net (Retire f) = true
 is_event_within net (Down l) = is_link net l
 is_event_within net (Up l) = is_link net l

@@ -34,6 +34,25 @@ fn event_of_one(graph: &Graph, command: &[u8], first: &[u8]) -> Result<Event, Sc
     Err(ScriptFault::BadCommand)
 }
 
+/// The kind that a word names. Landmark plans go round so far.
+fn kind_named(detour: Detour, word: &[u8]) -> Result<Kind, ScriptFault>
+    ensures { result ≡ kind_named detour word.now }
+{
+    if is_word(word, b"tree") {
+        return Ok(Kind::Tree);
+    }
+    if is_word(word, b"shortest") {
+        return Ok(Kind::Shortest);
+    }
+    if is_word(word, b"compact") {
+        return Ok(Kind::Compact);
+    }
+    if is_word(word, b"landmark") {
+        return Ok(Kind::Landmark(detour));
+    }
+    Err(ScriptFault::BadCommand)
+}
+
 /// The event of a first word that two follow.
 fn event_of_two(
     graph: &Graph,
@@ -67,17 +86,13 @@ fn event_of_two(
     if is_word(command, b"take") && is_word(second, b"inbox") {
         return Ok(Event::Take(node_of(graph, first)?, Way::Inbox));
     }
-    if is_word(command, b"install") && is_word(first, b"tree") {
-        return Ok(Event::Install(Kind::Tree, node_of(graph, second)?));
+    if is_word(command, b"install") {
+        let kind = kind_named(detour, first)?;
+        return Ok(Event::Install(kind, node_of(graph, second)?));
     }
-    if is_word(command, b"install") && is_word(first, b"shortest") {
-        return Ok(Event::Install(Kind::Shortest, node_of(graph, second)?));
-    }
-    if is_word(command, b"install") && is_word(first, b"compact") {
-        return Ok(Event::Install(Kind::Compact, node_of(graph, second)?));
-    }
-    if is_word(command, b"install") && is_word(first, b"landmark") {
-        return Ok(Event::Install(Kind::Landmark(detour), node_of(graph, second)?));
+    if is_word(command, b"renumber") {
+        let kind = kind_named(detour, first)?;
+        return Ok(Event::Renumber(kind, node_of(graph, second)?));
     }
     Err(ScriptFault::BadCommand)
 }
@@ -152,6 +167,7 @@ pub fn command_of(step: Step) -> Result<Command, ScriptFault>
     match step {
         Step::Event(Event::Inject(source, dest)) => Ok(Command::Inject(source, dest)),
         Step::Event(Event::Install(kind, root)) => Ok(Command::Install(kind, root)),
+        Step::Event(Event::Renumber(kind, root)) => Ok(Command::Renumber(kind, root)),
         Step::Event(Event::Retire(floor)) => Ok(Command::Retire(floor)),
         Step::Event(Event::Down(link)) => Ok(Command::Down(link)),
         Step::Event(Event::Up(link)) => Ok(Command::Up(link)),

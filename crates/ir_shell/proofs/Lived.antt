@@ -7,7 +7,7 @@ use Rattle.std.proofs.lemmas.Option.{same_Some, none-some, slice_get_within, get
 use Rattle.ir_model.specs.Topology.{Topology, IsTopology, node_count}
 use Rattle.ir_core.specs.declared.TheConstants.{MAX_NODES, MAX_LINKS, MAX_CAPACITY, MAX_PACKETS, MAX_RESTAMPS}
 use Rattle.ir_core.specs.declared.command.Command.{Command}
-use Rattle.ir_core.specs.declared.command.Command.TheVariants.{Inject, Install, Retire, Down, Up, Avoid, Heed, Drain}
+use Rattle.ir_core.specs.declared.command.Command.TheVariants.{Inject, Install, Renumber, Retire, Down, Up, Avoid, Heed, Drain}
 use Rattle.ir_core.specs.Record.{Record}
 use Rattle.ir_core.specs.Opened.{open_refused, is_small, is_within}
 use Rattle.ir_epochs.specs.declared.registry.Stamp.{Stamp}
@@ -56,6 +56,9 @@ module _ (was_full : Word Parcel) {B : Type 0} (before next : Desk B) (n : ℕ) 
   kept (Install kind root) (Ok None) k = absurd k
   kept (Install kind root) (Ok (Some s)) k = k.learnt.opening
   kept (Install kind root) (Err why) k = ap (λ i. i.opening) k.0
+  kept (Renumber kind root) (Ok None) k = absurd k
+  kept (Renumber kind root) (Ok (Some s)) k = k.learnt.opening
+  kept (Renumber kind root) (Err why) k = ap (λ i. i.opening) k.0
   kept (Retire floor) (Ok None) k = ap (λ i. i.opening) k.0
   kept (Retire floor) (Ok (Some s)) k = absurd k
   kept (Retire floor) (Err why) k = ap (λ i. i.opening) k.0
@@ -81,6 +84,7 @@ module _ (was_full : Word Parcel) {B : Type 0} (before next : Desk B) (n : ℕ) 
   one_entered e (Inject source dest) (Ok (Some s)) id epoch later k all = absurd k.0
   one_entered e (Inject source dest) (Err why) id epoch later k all = all
   one_entered e (Install kind root) answer id epoch later k all = all
+  one_entered e (Renumber kind root) answer id epoch later k all = all
   one_entered e (Retire floor) answer id epoch later k all = all
   one_entered e (Down link) answer id epoch later k all = all
   one_entered e (Up link) answer id epoch later k all = all

@@ -5,7 +5,7 @@ use Rattle.ir_model.specs.declared.Kind.TheVariants.{Tree, Shortest, Compact, La
 use Rattle.ir_model.specs.Graph.{Name}
 use Rattle.ir_model.specs.Topology.{Topology}
 use Rattle.ir_core.specs.declared.event.Event.{Event}
-use Rattle.ir_core.specs.declared.event.Event.TheVariants.{Inject, Learn, Take, Read, Act, Install, Retire, Down, Up, Avoid, Heed}
+use Rattle.ir_core.specs.declared.event.Event.TheVariants.{Inject, Learn, Take, Read, Act, Install, Renumber, Retire, Down, Up, Avoid, Heed}
 use Rattle.ir_core.specs.declared.event.Way.{Way}
 use Rattle.ir_core.specs.declared.event.Way.TheVariants.{Inbox, Link}
 use Rattle.ir_core.specs.declared.event.Reply.{Reply}
@@ -42,6 +42,7 @@ event_words nodes net (Take u way) = codes "take" ∷ name_at nodes u ∷ way_wo
 event_words nodes net (Read u k) = codes "read" ∷ name_at nodes u ∷ decimal k ∷ []
 event_words nodes net (Act u) = codes "act" ∷ name_at nodes u ∷ []
 event_words nodes net (Install kind r) = codes "install" ∷ kind_word kind ∷ name_at nodes r ∷ []
+event_words nodes net (Renumber kind r) = codes "renumber" ∷ kind_word kind ∷ name_at nodes r ∷ []
 event_words nodes net (Retire f) = codes "retire" ∷ decimal f ∷ []
 event_words nodes net (Down l) = codes "down" ∷ link_words nodes net l
 event_words nodes net (Up l) = codes "up" ∷ link_words nodes net l

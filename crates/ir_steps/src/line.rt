@@ -97,6 +97,11 @@ fn push_event(text: &mut String, net: &Network<'_>, event: Event) -> Result<(), 
             push_word(text, kind_word(kind))?;
             push_node(text, net, root)
         }
+        Event::Renumber(kind, root) => {
+            push_word(text, "renumber")?;
+            push_word(text, kind_word(kind))?;
+            push_node(text, net, root)
+        }
         Event::Retire(floor) => {
             push_word(text, "retire")?;
             push_next_number(text, floor as usize)

@@ -7,7 +7,8 @@ use Rattle.std.proofs.Math.Seq.{drop-cons}
 use Rattle.ir_model.specs.Topology.{Topology, restrict}
 use Rattle.ir_model.specs.Plan.{Plan}
 use Rattle.ir_core.specs.declared.built.Install.{Install}
-use Rattle.ir_plan.specs.Building.{FromRoot, IsPlanBy}
+use Rattle.ir_plan.specs.Building.{IsPlanBy}
+use Rattle.ir_core.specs.Installed.{labelled_by}
 use Rattle.ir_core.specs.Sound.{last_of}
 use Rattle.ir_trace.specs.Row.{Segment}
 use Rattle.ir_trace.specs.Checked.{is_part_over, ArePlansOf}
@@ -43,7 +44,7 @@ part_facts n part h =
     record { some = some; within = both.1; last = last_within n part.hops both.1 some }
 
 -- the plan of one install more
-plans_push : (net : Topology) (installs : List Install) (plans : List Plan) (install : Install) (t : Plan) → ArePlansOf net installs plans → IsPlanBy (restrict install.up.items net) install.kind (FromRoot install.labels install.root) t
+plans_push : (net : Topology) (installs : List Install) (plans : List Plan) (install : Install) (t : Plan) → ArePlansOf net installs plans → IsPlanBy (restrict install.up.items net) install.kind (labelled_by install) t
     → ArePlansOf net (installs ++ install ∷ []) (plans ++ t ∷ [])
 plans_push net [] [] install t are is = (is, tt)
 plans_push net [] (s ∷ plans) install t are is = absurd are
@@ -51,7 +52,7 @@ plans_push net (i ∷ installs) [] install t are is = absurd are
 plans_push net (i ∷ installs) (s ∷ plans) install t are is = (are.0, plans_push net installs plans install t are.1 is)
 
 pub plans_more : (net : Topology) (installs : List Install) (k : ℕ) (install : Install) (plans : List Plan) (t : Plan) → k < length installs → install ≡ get_or installs k install
-    → ArePlansOf net (take k installs) plans → IsPlanBy (restrict install.up.items net) install.kind (FromRoot install.labels install.root) t → ArePlansOf net (take (k + 1) installs) (plans ++ t ∷ [])
+    → ArePlansOf net (take k installs) plans → IsPlanBy (restrict install.up.items net) install.kind (labelled_by install) t → ArePlansOf net (take (k + 1) installs) (plans ++ t ∷ [])
 plans_more net installs k install plans t lt at are is =
     let more : take (k + 1) installs ≡ take k installs ++ install ∷ [] = take_more installs k install lt ∙ ap (λ (x : Install). take k installs ++ x ∷ []) (sym at) in
     rw more (plans_push net (take k installs) plans install t are is)

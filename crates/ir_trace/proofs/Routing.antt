@@ -7,12 +7,13 @@ use Rattle.ir_model.specs.Numbering.{neighbors_of, IsDepthFirst}
 use Rattle.ir_model.specs.Tree.{IsTreeTable}
 use Rattle.ir_model.specs.Plan.{Plan, IsPlan, IsTableOf, table_port}
 use Rattle.ir_model.proofs.Ranked.{parents_same}
-use Rattle.ir_plan.specs.declared.tour.LabelOrder.{LabelOrder}
-use Rattle.ir_plan.specs.Building.{FromRoot, IsPlanBy}
+use Rattle.ir_plan.specs.Building.{Labelling, IsPlanBy}
 use Rattle.ir_plan.specs.Starts.{IsPlanAs}
 use Rattle.ir_plan.proofs.DepthFirst.{labels_same, rows_alike, table_same}
-use Rattle.ir_plan.proofs.Labelled.{order_determined, tree_or_not}
+use Rattle.ir_plan.proofs.Labelled.{tree_or_not}
 use Rattle.ir_core.specs.declared.built.Install.{Install}
+use Rattle.ir_core.specs.Installed.{labelled_by}
+use Rattle.ir_core.proofs.Labelled.{twins}
 use Rattle.ir_trace.specs.Checked.{plan_at, ArePlansOf}
 use Rattle.ir_trace.specs.Judged.{RoutesAs, RouteAlike}
 use Rattle.ir_trace.proofs.OneTree.{table_moved, one_table}
@@ -46,13 +47,13 @@ module _ (p q : Plan) (is : IsPlan p) (like : IsPlanAs p q) (order : p.order ≡
   tree_same : (u d : ℕ) → u < node_count p.topology → d < node_count p.topology → table_port p u d ≡ table_port q u d
   tree_same = one_table p.topology is.topology p.order is.parents p.labels p.root numbers is.labels (table_port p) (table_port q) table theirs
 
--- two plans of one kind, root and network that are labelled in one order
-module _ (labels : LabelOrder) (kind : Kind) (root : ℕ) (net : Topology) (p q : Plan) (a : IsPlanBy net kind (FromRoot labels root) p) (b : IsPlanBy net kind (FromRoot labels root) q) where
+-- two plans of one kind and network that are labelled by the same
+module _ (labels : Labelling) (kind : Kind) (net : Topology) (p q : Plan) (a : IsPlanBy net kind labels p) (b : IsPlanBy net kind labels q) where
   alike : IsPlanAs p q
-  alike = record { plan = b.valid; kind = b.of_kind ∙ sym a.of_kind; root = b.labelled.1 ∙ sym a.labelled.1; topology = b.over ∙ sym a.over }
+  alike = (twins net kind labels p q a b).like
 
   same : p.order ≡ q.order
-  same = order_determined labels p q a.valid alike a.labelled.0 b.labelled.0
+  same = (twins net kind labels p q a b).order
 
   ports : (u d : ℕ) → u < node_count p.topology → d < node_count p.topology → table_port p u d ≡ table_port q u d
   ports =
@@ -84,7 +85,7 @@ alike_at net [] [] others are so (suc e) above le = absurd (omega arith)
 alike_at net [] (t ∷ plans) others are so (suc e) above le = absurd are
 alike_at net (i ∷ installs) [] others are so (suc e) above le = absurd are
 alike_at net (i ∷ installs) (t ∷ plans) [] are so (suc e) above le = absurd so
-alike_at net (i ∷ installs) (t ∷ plans) (s ∷ others) are so (suc zero) above le = routes_as i.labels i.kind i.root (restrict i.up.items net) t s are.0 so.0
+alike_at net (i ∷ installs) (t ∷ plans) (s ∷ others) are so (suc zero) above le = routes_as (labelled_by i) i.kind (restrict i.up.items net) t s are.0 so.0
 alike_at net (i ∷ installs) (t ∷ plans) (s ∷ others) are so (suc (suc e)) above le =
     let back : suc (suc e) - 1 ≡ suc e = omega arith in
     let before : suc e - 1 ≡ e = omega arith in

@@ -7,9 +7,10 @@ use Rattle.ir_model.specs.Topology.{Topology, node_count, restrict}
 use Rattle.ir_model.specs.Walk.{IsConnected, IsDistance, walk_weight}
 use Rattle.ir_model.specs.Table.{IsPrescribedWalk}
 use Rattle.ir_model.specs.Plan.{Plan, table_port}
-use Rattle.ir_plan.specs.Building.{FromRoot, IsPlanBy}
+use Rattle.ir_plan.specs.Building.{HasRoot, MayLabel, IsPlanBy}
 use Rattle.ir_plan.specs.Starts.{IsOfShortestWays}
 use Rattle.ir_core.specs.declared.built.Install.{Install}
+use Rattle.ir_core.specs.Installed.{labelled_by}
 use Rattle.ir_core.specs.Setting.{no_plan}
 use mathlib.Core.List.{IsPrefix}
 use Rattle.ir_core.specs.Sound.{last_of}
@@ -22,21 +23,25 @@ use Rattle.ir_trace.specs.Row.{Segment, TraceRow}
 
 -- ---- the epochs
 
--- What an epoch can be installed with: a mark for each link, of which those that are up join all nodes, and a root.
+-- What an epoch can be installed with: a mark for each link, of which those that are up join all nodes, and a root that
+-- is a node or an order that it keeps.
 pub record IsInstall (topology : Topology) (install : Install) : Type 0 where
-  pub root : install.root < node_count topology
+  pub some : 0 < node_count topology
+  pub root : HasRoot topology (labelled_by install)
+  pub labels : MayLabel topology install.kind (labelled_by install)
   pub marks : length install.up.items ≡ length topology.links
   pub joined : IsConnected (restrict install.up.items topology)
 
 abbrev pub AreInstalls : Topology → List Install → Type 0
 AreInstalls topology installs = (i : ℕ) (install : Install) → slice_get installs i ≡ Some install → IsInstall topology install
 
--- a plan for each epoch: of the kind and root of its install, over the links that were up
+-- a plan for each epoch: of the kind of its install, over the links that were up, labelled by the order that it kept, or
+-- from its root
 abbrev pub ArePlansOf : Topology → List Install → List Plan → Type 0
 ArePlansOf topology [] [] = Unit {0}
 ArePlansOf topology [] (t ∷ plans) = ⊥
 ArePlansOf topology (i ∷ installs) [] = ⊥
-ArePlansOf topology (i ∷ installs) (t ∷ plans) = IsPlanBy (restrict i.up.items topology) i.kind (FromRoot i.labels i.root) t × ArePlansOf topology installs plans
+ArePlansOf topology (i ∷ installs) (t ∷ plans) = IsPlanBy (restrict i.up.items topology) i.kind (labelled_by i) t × ArePlansOf topology installs plans
 
 -- the plan of an epoch
 abbrev pub plan_at : List Plan → ℕ → Plan

@@ -2,7 +2,8 @@
 ghost use Rattle.std.specs.{Prelude.{◌≡◌, ◌<◌, ◌≤◌, ◌*◌, true, IfOk, length, nat_lt}, List.list_all};
 ghost use Rattle.ir_model.specs.{Topology.{node_count, restrict}, Walk.{link_weight, walk_weight}};
 ghost use Rattle.ir_core.specs.Sound.{last_of};
-ghost use Rattle.ir_plan.specs.Building.{FromRoot, IsPlanBy};
+ghost use Rattle.ir_plan.specs.Building.{IsPlanBy};
+ghost use Rattle.ir_core.specs.{Drafts.items_of, Installed.labelled_by};
 ghost use Rattle.ir_trace.specs.Checked.{plan_at, last_part, IsInstall, AreInstalls, ArePlansOf};
 ghost use Rattle.ir_trace.specs.Inspect.{is_node, next_of, are_known, fits_fate};
 
@@ -40,13 +41,15 @@ fn plan_by(
 ) -> Result<Plan, AllocError>
     requires { IsInstall topology.now install.now }
     ensures { IfOk result (IsPlanBy (restrict install.now.up.items topology.now) install.now.kind
-        (FromRoot install.now.labels install.now.root)) }
+        (labelled_by install.now)) }
 {
     let kept = topology.only(alloc, install.up.as_slice())?;
+    let kept_order = order_again(alloc, &install.kept)?;
     let draft = Draft {
         labels: install.labels,
         kind: install.kind,
         root: install.root,
+        kept: kept_order,
     };
     match plan_over_by(crew, alloc, kept, draft) {
         Ok(plan) => Ok(plan),
@@ -55,6 +58,20 @@ fn plan_by(
                 unreachable!()
             }
             Err(AllocError)
+        }
+    }
+}
+
+/// The nodes by label that an install kept, once more.
+fn order_again(alloc: Global, kept: &Option<Vec<u16>>) -> Result<Option<Vec<u16>>, AllocError>
+    ensures { IfOk result (λ copy. items_of copy ≡ items_of kept.now) }
+{
+    match kept {
+        None => Ok(None),
+        Some(nodes) => {
+            let mut copy = Vec::with_capacity(alloc, nodes.len())?;
+            copy.extend_from_slice(nodes.as_slice())?;
+            Ok(Some(copy))
         }
     }
 }

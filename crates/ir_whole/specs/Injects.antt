@@ -15,6 +15,7 @@ inject_in epochs _ = None
 -- how many epochs there are below a step, where each install makes one
 abbrev pub epochs_after : ℕ → Step → ℕ
 epochs_after epochs (step.Event (event.Install kind root)) = epochs + 1
+epochs_after epochs (step.Event (event.Renumber kind root)) = epochs + 1
 epochs_after epochs _ = epochs
 
 -- the inject lines of steps, in order, below lines that made so many epochs

@@ -36,7 +36,7 @@ fn epochs_after(epochs: usize, step: Step) -> usize
     ensures within { result ≤ epochs + 1 }
 {
     match step {
-        Step::Event(Event::Install(_, _)) => epochs + 1,
+        Step::Event(Event::Install(_, _) | Event::Renumber(_, _)) => epochs + 1,
         _ => epochs,
     }
 }

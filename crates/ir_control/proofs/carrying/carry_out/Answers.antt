@@ -28,6 +28,9 @@ returns-in-Inject g c = known g.R.Moments.was_full _ (command.Inject c.in-Inject
 pub returns-in-Install : goal.returns-in-Install
 returns-in-Install g c = subst (λ (k : Command). IsCarriedOut g.R.Moments.was_full k (desk_of c.args.parts.now) c.install.result (desk_of c.install.new.parts)) (sym c.in-Install.is) c.install.ensures
 
+pub returns-in-Renumber : goal.returns-in-Renumber
+returns-in-Renumber g c = subst (λ (k : Command). IsCarriedOut g.R.Moments.was_full k (desk_of c.args.parts.now) c.install-in-Renumber.result (desk_of c.install-in-Renumber.new.parts)) (sym c.in-Renumber.is) c.install-in-Renumber.ensures
+
 pub returns-in-Retire : goal.returns-in-Retire
 returns-in-Retire g c = known g.R.Moments.was_full _ (command.Retire c.in-Retire.floor) (desk_of c.args.parts.now) _ c.err.result c.answered-in-Retire.result c.answered-in-Retire.ensures c.in-Retire.is
     (changed_as _ (change.Retire c.in-Retire.floor) (desk_of c.args.parts.now) _ c.retire.result c.err.result c.err.ensures.value refl c.retire.ensures.answer)

@@ -1,17 +1,16 @@
-use Rattle.std.proofs.Common.{List, sym, subst}
+use Rattle.std.proofs.Common.{Bool, List, sym, subst}
 use Rattle.std.specs.Prelude.{IfOk}
 use Rattle.ir_core.specs.declared.event.Event.{Event}
 use Rattle.ir_core.specs.declared.event.Event.TheVariants as event
 use Rattle.ir_core.specs.declared.event.Step.TheVariants as step
 use Rattle.ir_core.specs.declared.built.Install.{Install}
-use Rattle.ir_core.specs.Installed.{ControlsOn}
+use Rattle.ir_core.specs.Installed.{ControlsOn, IsNext}
 use Rattle.ir_core.proofs.Controls.{of_installs}
 use Rattle.ir_core.proofs.built.control_event.Goals as goal
 
-pub returns-in-Install : goal.returns-in-Install
-returns-in-Install g c =
-    let is = c.in-Install.is in
-    subst (λ (e : Event). IfOk c.install_next.result (λ _. ControlsOn c.args.world.now (step.Event e) c.args.built.now.items c.install_next.new.world c.install_next.new.built.items)) (sym is) c.install_next.ensures
+pub install_next-requires-clause-next : goal.install_next-requires-clause-next
+install_next-requires-clause-next g c = λ κs le.
+    subst (λ (k : Bool). IsNext c.args.world.now k c.in-Install.kind c.in-Install.root c.in_ok-next-in-Install.next) c.keeps.ensures c.in_ok-next-in-Install.ensures
 
 pub returns-in-Retire : goal.returns-in-Retire
 returns-in-Retire g c =

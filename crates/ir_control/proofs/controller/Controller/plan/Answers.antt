@@ -1,8 +1,10 @@
-use Rattle.std.proofs.Common.{subst, ap, ◌∙◌}
+use Rattle.std.proofs.Common.{◌≡◌, subst, ap, ◌∙◌}
 use Rattle.std.proofs.lemmas.Result.{err_from_is_err_and}
 use Rattle.ir_model.specs.Plan.{Plan}
 use Rattle.ir_model.specs.Topology.{Topology}
-use Rattle.ir_plan.specs.Building.{FromRoot, IsPlanBy}
+use Rattle.ir_plan.specs.Building.{Labelling, IsPlanBy}
+use Rattle.ir_core.specs.Drafts.{items_of, labelling_by}
+use Rattle.ir_control.specs.Changes.{topology_up, labelling_next}
 use Rattle.ir_core.specs.declared.board.Board.{Board}
 use Rattle.ir_epochs.specs.Entries.{board_of}
 use Rattle.ir_epochs.specs.Handles.{published}
@@ -16,7 +18,7 @@ returns-in_err-plan-clause-answer g c =
     let own = c.args.self.now in
     let is = err_from_is_err_and c.from_residual.result c.from_residual.ensures.1 in
     rw (is.1, is.2)
-    (later_refused (knows own.opening).topology c.topology-topology.result.now (board_of (published own.writer)) c.board-board.result (c.topology-topology.ensures ∙ ap (λ (t : Plan). t.topology) c.plan.ensures) c.board-board.ensures.board own.labels c.args.root c.requires _
+    (later_refused (knows own.opening).topology c.topology-topology.result.now (board_of (published own.writer)) c.board-board.result (c.topology-topology.ensures ∙ ap (λ (t : Plan). t.topology) c.plan.ensures) c.board-board.ensures.board own.labels c.args.root (items_of c.in_ok-kept.kept) c.requires _
     c.in_err-plan.ensures.refused)
 
 pub returns-in_err-plan-clause-number : goal.returns-in_err-plan-clause-number
@@ -27,5 +29,7 @@ returns-in_err-plan-clause-number g c =
 pub returns-clause-answer : goal.returns-clause-answer
 returns-clause-answer g c =
     let own = c.args.self.now in
-    subst (λ (b : Board). IsPlanBy (up_in (knows own.opening).topology b) c.args.kind (FromRoot own.labels c.args.root) c.in_ok-plan.plan) c.board-board.ensures.board
-    (subst (λ (net : Topology). IsPlanBy (up_in net c.board-board.result) c.args.kind (FromRoot own.labels c.args.root) c.in_ok-plan.plan) (c.topology-topology.ensures ∙ ap (λ (t : Plan). t.topology) c.plan.ensures) c.in_ok-plan.ensures.made)
+    let labels : labelling_by own.labels c.args.root (items_of c.in_ok-kept.kept) ≡ labelling_next own c.args.keeps c.args.kind c.args.root = ap (labelling_by own.labels c.args.root) c.in_ok-kept.ensures.kept in
+    subst (λ (l : Labelling). IsPlanBy (topology_up own) c.args.kind l c.in_ok-plan.plan) labels
+    (subst (λ (b : Board). IsPlanBy (up_in (knows own.opening).topology b) c.args.kind (labelling_by own.labels c.args.root (items_of c.in_ok-kept.kept)) c.in_ok-plan.plan) c.board-board.ensures.board
+    (subst (λ (net : Topology). IsPlanBy (up_in net c.board-board.result) c.args.kind (labelling_by own.labels c.args.root (items_of c.in_ok-kept.kept)) c.in_ok-plan.plan) (c.topology-topology.ensures ∙ ap (λ (t : Plan). t.topology) c.plan.ensures) c.in_ok-plan.ensures.made))

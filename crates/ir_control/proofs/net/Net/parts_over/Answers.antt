@@ -70,6 +70,7 @@ returns g c =
       learnt = c.again-2.ensures;
       controller_opening = c.again-3.ensures;
       controller_labels = refl;
+      controller_keeps = refl;
       controller_registry = c.in_ok-try_clone-2.ensures;
       used = refl;
       board = c.requires.opening;

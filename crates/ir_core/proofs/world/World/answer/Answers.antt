@@ -1,5 +1,8 @@
-use Rattle.std.proofs.Common.{ap, inl, inr, refl}
-use Rattle.ir_core.specs.World.{World}
+use Rattle.std.proofs.Common.{Bool, ap, inl, inr, refl, subst}
+use Rattle.ir_core.specs.Drafts.{order_kept, labelling_by}
+use Rattle.ir_core.specs.Meaning.{newest_plan}
+use Rattle.ir_core.specs.Handled.{IsInstallAnswer}
+use Rattle.ir_core.specs.World.{World, sight_in}
 use Rattle.ir_core.proofs.Theorem.{same_setting, same_setting_or}
 use Rattle.ir_core.proofs.world.World.answer.Goals as goal
 
@@ -64,7 +67,17 @@ pub returns-in-Heed-clause-same_opening : goal.returns-in-Heed-clause-same_openi
 returns-in-Heed-clause-same_opening g c = same_setting_or c.args.self.now c.heed-in-Heed.new.self _ c.heed-in-Heed.result c.heed-in-Heed.ensures
 
 pub returns-in-Install-clause-answer : goal.returns-in-Install-clause-answer
-returns-in-Install-clause-answer g c = rw c.in-Install.is c.install.ensures
+returns-in-Install-clause-answer g c =
+    let s = c.args.self.now in
+    rw c.in-Install.is
+    (subst (λ (k : Bool). IsInstallAnswer s c.install.new.self (labelling_by s.opening.labels c.in-Install.root (order_kept k c.in-Install.kind (newest_plan s.opening (sight_in s)).order)) c.in-Install.kind c.in-Install.root c.install.result)
+    c.keeps-keeps.ensures c.install.ensures)
+
+pub returns-in-Renumber-clause-answer : goal.returns-in-Renumber-clause-answer
+returns-in-Renumber-clause-answer g c = rw c.in-Renumber.is c.install-in-Renumber.ensures
+
+pub returns-in-Renumber-clause-same_opening : goal.returns-in-Renumber-clause-same_opening
+returns-in-Renumber-clause-same_opening g c = elim c.install-in-Renumber.ensures [ inl a ↦ same_setting c.args.self.now c.install-in-Renumber.new.self a.0 c.install-in-Renumber.result a.2 | inr a ↦ ap (λ (x : World). x.opening) a.2 ]
 
 pub returns-in-Install-clause-same_opening : goal.returns-in-Install-clause-same_opening
 returns-in-Install-clause-same_opening g c = elim c.install.ensures [ inl a ↦ same_setting c.args.self.now c.install.new.self a.0 c.install.result a.2 | inr a ↦ ap (λ (x : World). x.opening) a.2 ]

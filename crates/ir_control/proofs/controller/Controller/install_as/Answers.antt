@@ -12,10 +12,10 @@ use Rattle.ir_core.specs.declared.event.Refused.TheVariants.{Used}
 use Rattle.ir_epochs.specs.Handles.{published, writer_board}
 use Rattle.ir_epochs.specs.Stamps.{IsOf}
 use Rattle.ir_control.specs.declared.controller.Controller.{Controller}
-use Rattle.ir_control.specs.Changes.{topology_up, install_refusal, IsInstallRefusedBy}
+use Rattle.ir_control.specs.Changes.{topology_up, labelling_next, install_refusal, IsInstallRefusedBy}
 use Rattle.ir_control.proofs.Nets.{fits_install}
-use Rattle.ir_control.proofs.controller.Controller.install.Goals as goal
-use Rattle.ir_control.proofs.controller.Controller.install.Goals.{then-eq, else-eq}
+use Rattle.ir_control.proofs.controller.Controller.install_as.Goals as goal
+use Rattle.ir_control.proofs.controller.Controller.install_as.Goals.{then-eq, else-eq}
 
 pub change-requires-clause-fits : goal.change-requires-clause-fits
 change-requires-clause-fits g c =
@@ -33,7 +33,7 @@ returns-in-Ok-change-clause-answer g c =
       stamp = s;
       epoch = c.in-Ok-register.ensures.answer.1;
       registered = subst (λ (r : Registry). IsOf r s) c.deref.ensures c.in-Ok-register.ensures.answer.0;
-      plan = subst (λ (t : Plan). IsMade c.args.self.now.labels c.args.kind c.args.root (topology_up c.args.self.now) (Some t)) (sym c.in-Ok-register.ensures.answer.2) c.in-Ok.ensures.answer;
+      plan = subst (λ (t : Plan). IsMade (labelling_next c.args.self.now c.args.keeps c.args.kind c.args.root) c.args.kind (topology_up c.args.self.now) (Some t)) (sym c.in-Ok-register.ensures.answer.2) c.in-Ok.ensures.answer;
       publishes = (let done = c.in-Ok-change.ensures.answer.1.1 in record {
         published_is = done.published_is;
         told_is = done.told_is;
@@ -42,6 +42,7 @@ returns-in-Ok-change-clause-answer g c =
         opening = done.opening;
         registry = done.registry;
         labels = done.labels;
+        keeps = done.keeps;
       });
       used = c.in-Ok-change.ensures.answer.0;
     }
@@ -62,6 +63,7 @@ returns-in-Err-register-clause-answer g c =
           opening = ap (λ (own : Controller _). own.opening) w.self-is;
           registry = ap (λ (own : Controller _). own.registry) w.self-is;
           labels = ap (λ (own : Controller _). own.labels) w.self-is;
+          keeps = ap (λ (own : Controller _). own.keeps) w.self-is;
         };
         used = inr (ap (λ (own : Controller _). own.used) w.self-is, why);
         cell = λ e. ap (λ (own : Controller _). own.used) w.self-is;
@@ -74,6 +76,7 @@ returns-in-Err-register-clause-answer g c =
           opening = ap (λ (own : Controller _). own.opening) w.self-is;
           registry = ap (λ (own : Controller _). own.registry) w.self-is;
           labels = ap (λ (own : Controller _). own.labels) w.self-is;
+          keeps = ap (λ (own : Controller _). own.keeps) w.self-is;
         };
         used = inl (ap (λ (own : Controller _). own.used) w.self-is);
         cell = λ e. absurd (false≢true (sym w.if-eq.false ∙ c.eq.ensures ∙ ap (λ (x : Refused). sameb the_type x Used) e));
