@@ -6,7 +6,7 @@ use Rattle.std.proofs.lemmas.Option.{slice_get_within}
 use Rattle.std.specs.List.{list_all, prefix_len, position_or_len}
 use Rattle.ir_model.specs.declared.Detour.{Detour}
 use Rattle.ir_model.specs.declared.Hop.{Hop}
-use Rattle.ir_model.specs.declared.Kind.TheVariants.{Tree, Shortest, Compact, Landmark}
+use Rattle.ir_model.specs.declared.Kind.{Kind}
 use Rattle.ir_model.specs.Graph.{Name}
 use Rattle.ir_model.specs.Text.{content, words, is_plain}
 use Rattle.ir_model.specs.Topology.{Topology, IsTopology, node_count, ports_of}
@@ -17,7 +17,7 @@ use Rattle.ir_core.specs.declared.event.Step.{Step}
 use Rattle.ir_core.specs.declared.event.Step.TheVariants as step
 use Rattle.ir_script.specs.declared.fault.ScriptFault.{ScriptFault}
 use Rattle.ir_script.specs.declared.fault.ScriptFault.TheVariants.{BadByte, BadCommand}
-use Rattle.ir_script.specs.Command.{number_of, node_at, node_of, link_of_port, link_towards, link_of_ends, named_link, of_one, of_two, event_of_one, event_of_two, event_of_three, as_step, step_of, line_step}
+use Rattle.ir_script.specs.Command.{number_of, node_at, node_of, link_of_port, link_towards, link_of_ends, named_link, of_one, of_two, kind_named, of_kind, event_of_one, event_of_two, event_of_three, as_step, step_of, line_step}
 use Rattle.ir_script.specs.Script.{Listing, with_line, listing_from, listing_of}
 use Rattle.ir_script.specs.Within.{is_node_of, is_link, is_event_within, is_step_within}
 

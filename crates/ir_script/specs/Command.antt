@@ -3,6 +3,7 @@ use Rattle.std.specs.Prelude.{ℕ, not, ◌&&◌, ◌||◌, ◌==◌, Bool, if�
 use Rattle.std.specs.List.{list_all}
 use Rattle.ir_model.specs.declared.Detour.{Detour}
 use Rattle.ir_model.specs.declared.Hop.{Hop}
+use Rattle.ir_model.specs.declared.Kind.{Kind}
 use Rattle.ir_model.specs.declared.Kind.TheVariants.{Tree, Shortest, Compact, Landmark}
 use Rattle.ir_model.specs.Graph.{Name}
 use Rattle.ir_model.specs.Text.{content, words, is_plain, is_empty}

@@ -1,7 +1,7 @@
 //! One line of a script.
 ghost use Rattle.std.specs.Prelude.{◌≡◌, bytes_eq};
 ghost use Rattle.ir_model.specs.{Graph.names, OfGraph.topology_of_graph, Text.words_of};
-ghost use Rattle.ir_script.specs.Command.{event_of_one, event_of_two, event_of_three, step_of, is_of_simulation, command_of};
+ghost use Rattle.ir_script.specs.Command.{kind_named, event_of_one, event_of_two, event_of_three, step_of, is_of_simulation, command_of};
 
 use crate::fault::ScriptFault;
 use crate::word::{link_between, link_of, node_of, number_of};
