@@ -1,5 +1,6 @@
 pub mod Marks
 pub mod Runs
+pub mod Parts
 pub mod Numbers
 pub mod Held
 pub mod Blocks

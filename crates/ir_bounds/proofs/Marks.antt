@@ -1,18 +1,20 @@
 -- The marks of a port, as one label after the other comes to them, and what they say.
-use Rattle.std.proofs.Common.{◌≡◌, ◌↔◌, ℕ, ◌+◌, ◌<◌, ◌≤◌, Bool, true, false, List, [], ◌∷◌, ◌++◌, length, Some, Option, refl, ap, sym, ◌∙◌, subst, inl, inr, ◌⊎◌, arith}
+use Rattle.std.proofs.Common.{◌≡◌, ◌↔◌, ℕ, ◌+◌, ◌<◌, ◌≤◌, Bool, true, false, List, [], ◌∷◌, ◌++◌, length, Some, Option, ap, sym, ◌∙◌, subst, inl, inr, ◌⊎◌, arith}
 use Rattle.std.specs.Prelude.{Contains, slice_index, slice_index_or}
 use Rattle.std.proofs.lemmas.Bool.{cases_eq, cases_lt}
 use Rattle.std.proofs.lemmas.List.{length_push, get_or_push, get_or_append_left, get_or_past}
 use Rattle.std.proofs.lemmas.List.Elements.{Contains-append_left, Contains-push, Contains-push_cases}
 use Rattle.std.proofs.lemmas.Option.{slice_get_within}
 use Rattle.ir_model.specs.declared.Hop.{Hop}
-use Rattle.ir_model.specs.Topology.{Topology, node_count, ports_of, port_at}
+use Rattle.ir_model.specs.Topology.{Topology, node_count, ports_of, port_at, IsTopology}
 use Rattle.ir_model.specs.Plan.{AreLabels}
 use Rattle.ir_model.specs.Choices.{AreChoices, AreChosen}
 use Rattle.ir_model.specs.Within.{LeadsWithin, MayLead}
 use Rattle.ir_model.proofs.Best.{Marks}
 use Rattle.ir_model.proofs.Chosen.{choices_same}
-use Rattle.ir_bounds.specs.Bounds.{IsBoundIn}
+use Rattle.ir_model.specs.Landmark.{IsLandmarkBound}
+use Rattle.ir_model.proofs.Landmarks.{landmark_bound_one}
+use Rattle.ir_bounds.specs.Bounds.{AreBoundsFrom}
 use Rattle.ir_bounds.specs.Rows.{MayTakePort, AreMarksWithin}
 
 -- the first i labels have marks where P holds, and those with one are listed
@@ -64,28 +66,32 @@ marked_more P i row more marked grown b are is tells put =
           ];
     }
 
-module _ (net : Topology) (rows : List (List ℕ)) (order labels : List ℕ) (named : AreLabels (node_count net) order labels) (u : ℕ) (hu : u < node_count net) where
-  may : ℕ → ℕ → Type 0
-  may = MayTakePort net (IsBoundIn rows) order (slice_index labels u)
+module _ (net : Topology) (ok : IsTopology net) (landmarks : List ℕ) (stretch : ℕ) (order labels : List ℕ) (named : AreLabels (node_count net) order labels) (u : ℕ) (hu : u < node_count net) where
+  abbrev bound : ℕ → ℕ → ℕ → Type 0
+  bound = IsLandmarkBound net landmarks stretch
 
   -- the marks of a port say which labels may take it
-  pub marks_may : (p : ℕ) (hop : Hop) (row : List Bool) → port_at net u p ≡ Some hop
-      → AreMarksWithin (node_count net) order hop.weight (slice_index_or rows u []) (slice_index_or rows hop.node []) row
-      → (d : ℕ) → MayTakePort net (IsBoundIn rows) order (slice_index labels u) d p ↔ Marks row d
-  marks_may p hop row at are d =
+  pub marks_may : (p : ℕ) (hop : Hop) (own theirs : List ℕ) (row : List Bool) → AreBoundsFrom net landmarks stretch u own → AreBoundsFrom net landmarks stretch hop.node theirs → port_at net u p ≡ Some hop
+      → AreMarksWithin (node_count net) order hop.weight own theirs row → (d : ℕ) → MayTakePort net (IsLandmarkBound net landmarks stretch) order (slice_index labels u) d p ↔ Marks row d
+  marks_may p hop own theirs row whole rest at are d =
       let there = named.there u hu in (
         (λ take.
-            let leads = subst (λ (x : ℕ). LeadsWithin net (IsBoundIn rows) x (slice_index order d) p) there take.1 in
+            let end : ℕ = slice_index order d in
+            let hd = named.node d take.0 in
+            let leads = subst (λ (x : ℕ). LeadsWithin net bound x end p) there take.1 in
             let same : leads.0 ≡ hop = cc (leads.3, at) in
-            let of = subst (λ (h : Hop). (slice_index (slice_index_or rows h.node []) (slice_index order d) ≡ leads.1) × (h.weight + leads.1 ≤ leads.2)) same (leads.4, leads.6) in
-            (are.marks d take.0).1 (omega (arith, of.0, of.1, leads.5))),
+            let of = subst (λ (h : Hop). bound h.node end leads.1 × (h.weight + leads.1 ≤ leads.2)) same (leads.4, leads.6) in
+            let from = landmark_bound_one net ok landmarks stretch hop.node end (slice_index theirs end) leads.1 (rest.each end hd) of.0 in
+            let all = landmark_bound_one net ok landmarks stretch u end (slice_index own end) leads.2 (whole.each end hd) leads.5 in
+            (are.marks d take.0).1 (omega (arith, of.1, from, all))),
         (λ m.
             elim (cases_lt d (node_count net)) [
               | inl l ↦
+                  let hd = named.node d l in
                   let le = (are.marks d l).0 m in (
                     l,
-                    subst (λ (x : ℕ). LeadsWithin net (IsBoundIn rows) x (slice_index order d) p) (sym there)
-                        (hop, slice_index (slice_index_or rows hop.node []) (slice_index order d), slice_index (slice_index_or rows u []) (slice_index order d), at, refl, refl, le),
+                    subst (λ (x : ℕ). LeadsWithin net bound x (slice_index order d) p) (sym there)
+                        (hop, slice_index theirs (slice_index order d), slice_index own (slice_index order d), at, rest.each (slice_index order d) hd, whole.each (slice_index order d) hd, le),
                   )
               | inr past ↦
                   let none : slice_index_or row d false ≡ false = get_or_past row d false (let e = are.every in omega (arith, e, past)) in
@@ -94,9 +100,9 @@ module _ (net : Topology) (rows : List (List ℕ)) (order labels : List ℕ) (na
       )
 
   -- what a label may take is a port of u
-  pub no_port_past : (d q : ℕ) → length (ports_of net u) ≤ q → MayTakePort net (IsBoundIn rows) order (slice_index labels u) d q → ⊥
+  pub no_port_past : (d q : ℕ) → length (ports_of net u) ≤ q → MayTakePort net (IsLandmarkBound net landmarks stretch) order (slice_index labels u) d q → ⊥
   no_port_past d q past take =
-      let leads = subst (λ (x : ℕ). LeadsWithin net (IsBoundIn rows) x (slice_index order d) q) (named.there u hu) take.1 in
+      let leads = subst (λ (x : ℕ). LeadsWithin net bound x (slice_index order d) q) (named.there u hu) take.1 in
       let within = slice_get_within (ports_of net u) q leads.0 leads.3 in
       omega (arith, within, past)
 

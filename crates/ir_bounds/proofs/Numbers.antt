@@ -7,13 +7,13 @@ use Rattle.std.proofs.lemmas.List.{length_push, get_or_push, get_or_append_left,
 use Rattle.std.proofs.lemmas.List.Elements.{Contains-append_left, Contains-push, Contains-push_cases}
 use Rattle.ir_model.specs.Topology.{Topology, node_count, IsTopology}
 use Rattle.ir_model.specs.Walk.{IsDistance}
-use Rattle.ir_model.specs.Landmark.{IsLandmarkOf, IsLandmarkBound}
+use Rattle.ir_model.specs.Landmark.{IsLandmarkOf}
 use Rattle.ir_model.proofs.Walks.{lightest_short, way_light}
 use Rattle.ir_model.proofs.Tables.{distance_unique, distance_way, distance_lightest}
 use Rattle.ir_model.proofs.Ways.{symmetric}
-use Rattle.ir_model.proofs.Landmarks.{first_landmark, distance_nodes, landmark_bound_one}
+use Rattle.ir_model.proofs.Landmarks.{first_landmark, distance_nodes}
 use Rattle.ir_tables.specs.FromNode.{AreFrom}
-use Rattle.ir_bounds.specs.Bounds.{held_lists, IsBoundIn, AreOwnersBy, IsNearer, AreKeptNearer, AreLandmarkBounds}
+use Rattle.ir_bounds.specs.Bounds.{held_lists, AreOwnersBy, IsNearer, AreKeptNearer}
 
 -- a distance is at most 2 ^ 30
 pub distance_small : (net : Topology) → IsTopology net → (u d n : ℕ) → IsDistance net u d n → n ≤ 1073741824
@@ -127,11 +127,3 @@ module _ (net : Topology) (ok : IsTopology net) where
               | inr w ↦ rw (more, w.1, w.2) (landmark_old (take i landmarks) d l (slice_index weights d) (slice_index old_nodes d) (slice_index old_radii d) far of w.0)
             ];
       }
-
--- the bounds that are held are those by the landmarks
-module _ (net : Topology) (ok : IsTopology net) (landmarks : List ℕ) (stretch : ℕ) (rows : List (Vec ℕ)) (are : AreLandmarkBounds net landmarks stretch rows) where
-  pub held_is_bound : (u d b : ℕ) → u < node_count net → d < node_count net → IsBoundIn (held_lists rows) u d b → IsLandmarkBound net landmarks stretch u d b
-  held_is_bound u d b hu hd is = subst (λ (x : ℕ). IsLandmarkBound net landmarks stretch u d x) is ((are.each u hu).each d hd)
-
-  pub bound_is_held : (u d b : ℕ) → u < node_count net → d < node_count net → IsLandmarkBound net landmarks stretch u d b → IsBoundIn (held_lists rows) u d b
-  bound_is_held u d b hu hd is = landmark_bound_one net ok landmarks stretch u d (slice_index (slice_index_or (held_lists rows) u []) d) b ((are.each u hu).each d hd) is

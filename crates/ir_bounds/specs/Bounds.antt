@@ -1,5 +1,5 @@
 -- Bounds that are held as numbers, and the landmark of each node.
-use Rattle.std.specs.Prelude.{◌≡◌, ◌⊎◌, ℕ, ◌<◌, List, [], length, map, slice_index, slice_index_or}
+use Rattle.std.specs.Prelude.{◌≡◌, ◌⊎◌, ℕ, ◌<◌, List, length, map, slice_index}
 use Rattle.std.specs.Global.{Vec}
 use Rattle.ir_model.specs.Topology.{Topology, node_count}
 use Rattle.ir_model.specs.Landmark.{IsLandmarkOf, IsLandmarkBound}
@@ -8,14 +8,6 @@ use Rattle.ir_bounds.specs.declared.landmarks.Owners.{Owners}
 -- the lists that vectors hold
 abbrev pub held_lists : List (Vec ℕ) → List (List ℕ)
 held_lists rows = map (λ row. row.items) rows
-
--- the bounds from a node to each, in rows of them
-abbrev pub bounds_from : List (Vec ℕ) → ℕ → List ℕ
-bounds_from rows u = slice_index_or (held_lists rows) u []
-
--- the bound from u to d, in rows of them
-abbrev pub IsBoundIn : List (List ℕ) → ℕ → ℕ → ℕ → Type 0
-IsBoundIn rows u d b = slice_index (slice_index_or rows u []) d ≡ b
 
 -- the landmark of each node, and how far it is
 pub record AreOwnersBy (net : Topology) (landmarks nodes radii : List ℕ) : Type 0 where
@@ -46,8 +38,3 @@ pub record AreKeptNearer (l : ℕ) (away old_nodes old_radii nodes radii : List 
 pub record AreBoundsFrom (net : Topology) (landmarks : List ℕ) (stretch u : ℕ) (row : List ℕ) : Type 0 where
   pub every : length row ≡ node_count net
   pub each : (d : ℕ) → d < node_count net → IsLandmarkBound net landmarks stretch u d (slice_index row d)
-
--- and from each node
-pub record AreLandmarkBounds (net : Topology) (landmarks : List ℕ) (stretch : ℕ) (rows : List (Vec ℕ)) : Type 0 where
-  pub every : length (held_lists rows) ≡ node_count net
-  pub each : (u : ℕ) → u < node_count net → AreBoundsFrom net landmarks stretch u (bounds_from rows u)

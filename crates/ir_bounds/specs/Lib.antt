@@ -1,7 +1,10 @@
 -- what contracts promise
 pub mod Bounds
+pub mod Around
+pub mod Near
 pub mod Rows
 pub mod Plans
 pub mod Detours
 -- what bodies use
 pub mod Blocks
+pub mod Entries

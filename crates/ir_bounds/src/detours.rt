@@ -1,32 +1,37 @@
 //! What the labels and the rows of a landmark plan are made by, of the landmarks that its root and its detour choose.
 
-ghost use Rattle.std.specs.Prelude.{◌≡◌, ◌<◌, ℕ, List, IfOk, slice_index};
+ghost use Rattle.std.specs.Prelude.{◌≡◌, ◌<◌, ◌≤◌, ℕ, List, IfOk, length, slice_index};
 ghost use Rattle.ir_model.specs.{Topology.node_count, Walk.IsConnected, Plan.AreLabels};
 ghost use Rattle.ir_model.specs.Landmark.{IsLandmarkBound};
 ghost use Rattle.ir_numbering.specs.Numbering.{IsListing};
-ghost use Rattle.ir_bounds.specs.{Plans.AreBlockLabels, Rows.IsRowWithin, Detours.{AreDetourBounds, AreHeldBounds}};
+ghost use Rattle.ir_bounds.specs.{Plans.AreBlockLabels, Rows.IsRowWithin};
+ghost use Rattle.ir_bounds.specs.Detours.{AreChosenOwners, AreDetourBounds, AreHeldBounds};
+ghost use Rattle.ir_bounds.specs.Bounds.{AreBoundsFrom, AreOwners, held_lists};
+ghost use Rattle.ir_bounds.specs.Near.{AreNearBatches, entry_node, part_end};
+ghost use Rattle.ir_bounds.specs.Entries.{ArePut};
 
-use crate::bounds::Bounds;
 use crate::landmarks::Owners;
+use crate::near::{BATCH, begin_after, entry, near_list};
 use crate::order::{block_order, most_linked};
-use crate::rows::row_within;
+use crate::rows::runs_within;
+use ir_compile::{canonical_row, row_of_longest};
 use ir_lookup::Row;
 use ir_model::Detour;
 use ir_numbering::Numbering;
 use ir_tables::Topology;
 use std::alloc::{AllocError, Global};
 
-/// The landmarks of a plan, and the bounds by them.
+/// The landmark of each node, and for each batch of nodes the bounds to those near to them, by the landmarks of a plan.
 #[derive(Drop)]
 pub struct LandmarkBounds {
     pub owners: Owners,
     pub stretch: u16,
-    pub bounds: Bounds,
+    pub near: Vec<Vec<u16>>,
 }
 
 impl LandmarkBounds {
     /// The bounds of a connected network by the landmarks that a root and a detour choose. It is refused for memory
-    /// alone. Takes as long as `most_linked`, `Owners::of` and `Bounds::by_landmarks`.
+    /// alone. Takes as long as `chosen_owners` and `near_list` for each batch.
     pub fn of(
         alloc: Global,
         topology: &Topology,
@@ -37,18 +42,53 @@ impl LandmarkBounds {
         requires connected { IsConnected topology.now }
         ensures { IfOk result (AreDetourBounds topology.now root detour) }
     {
-        let landmarks = most_linked(alloc, topology, root, detour.landmarks as usize)?;
-        let owners = Owners::of(alloc, topology, landmarks)?;
-        let bounds = Bounds::by_landmarks(alloc, topology, &owners, detour.stretch)?;
-        Ok(LandmarkBounds {
+        let owners = chosen_owners(alloc, topology, root, detour)?;
+        let near = near_lists(alloc, topology, &owners, detour.stretch)?;
+        Ok(LandmarkBounds::by_lists(topology, root, detour, owners, near))
+    }
+
+    /// The bounds by owners and lists that are those of a root and a detour.
+    pub fn by_lists(
+        topology: &Topology,
+        root: u16,
+        detour: Detour,
+        owners: Owners,
+        near: Vec<Vec<u16>>,
+    ) -> LandmarkBounds
+        requires owners { AreChosenOwners topology.now root detour owners }
+        requires near { AreNearBatches topology.now owners.landmarks.items detour.stretch (held_lists near.items) }
+        ensures { AreDetourBounds topology.now root detour result }
+    {
+        topology.invariant();
+        LandmarkBounds {
             owners,
             stretch: detour.stretch,
-            bounds,
-        })
+            near,
+        }
+    }
+
+    /// The bounds from a node to each, by number. It is refused for memory alone. Takes O(n), for n nodes.
+    pub fn bounds_from(
+        &self,
+        alloc: Global,
+        topology: &Topology,
+        u: u16,
+    ) -> Result<Vec<u32>, AllocError>
+        requires node { u < node_count topology.now }
+        requires bounds { AreHeldBounds topology.now self.now }
+        ensures { IfOk result (λ row. AreBoundsFrom topology.now self.now.owners.landmarks.items self.now.stretch u
+            row.items) }
+    {
+        topology.invariant();
+        let mut row = self.owners.ways_round(alloc, topology, u)?;
+        let list = self.near[u as usize / BATCH].as_slice();
+        let begin = begin_after(list, u as usize % BATCH);
+        put_bounds(list, begin, row.as_mut_slice());
+        Ok(row)
     }
 
     /// The row of a node with the fewest intervals over all ports that lead within the bounds. It is refused for memory
-    /// alone. Takes as long as `row_within`.
+    /// alone. Takes O(d n), for d ports of the node and n nodes, and what `ir_compile::row_of_longest` takes.
     pub fn row(
         &self,
         alloc: Global,
@@ -57,15 +97,69 @@ impl LandmarkBounds {
         u: u16,
     ) -> Result<Row, AllocError>
         requires labels { AreLabels (node_count topology.now) numbering.now.order numbering.now.labels }
+        requires connected { IsConnected topology.now }
         requires node { u < node_count topology.now }
         requires bounds { AreHeldBounds topology.now self.now }
         ensures { IfOk result (λ row. IsRowWithin topology.now
             (IsLandmarkBound topology.now self.now.owners.landmarks.items self.now.stretch) numbering.now.order
             (slice_index numbering.now.labels u) row) }
     {
-        topology.invariant();
-        row_within(alloc, topology, numbering, &self.bounds, u)
+        let nodes = topology.nodes() as u16;
+        let (counts, ports) = runs_within(alloc, topology, numbering, self, u)?;
+        let own = numbering.label_of(u);
+        if nodes == 1 {
+            return canonical_row(alloc, nodes, own, &[None]);
+        }
+        row_of_longest(alloc, nodes, own, counts.as_slice(), ports.as_slice())
     }
+}
+
+// The lists of all batches.
+fn near_lists(
+    alloc: Global,
+    topology: &Topology,
+    owners: &Owners,
+    stretch: u16,
+) -> Result<Vec<Vec<u16>>, AllocError>
+    requires connected { IsConnected topology.now }
+    requires owners { AreOwners topology.now owners.now.landmarks.items owners.now }
+    ensures { IfOk result (λ lists. AreNearBatches topology.now owners.now.landmarks.items stretch
+        (held_lists lists.items)) }
+{
+    let batches = topology.nodes().div_ceil(BATCH);
+    let mut lists = Vec::with_capacity(alloc, batches)?;
+    for batch in 0..batches {
+        lists.push(near_list(alloc, topology, owners, stretch, batch)?)?;
+    }
+    Ok(lists)
+}
+
+// Puts the bounds of a part at its nodes.
+fn put_bounds(list: &[u16], begin: usize, row: &mut [u32])
+    requires within { part_end list.now begin ≤ length list.now }
+    requires nodes { (j : ℕ) → j < slice_index list.now begin → entry_node list.now begin j < length row.old }
+    ensures { ArePut list.now begin (slice_index list.now begin) row.old row.new }
+{
+    for j in 0..list[begin] as usize {
+        let (node, bound) = entry(list, begin, j);
+        row[node as usize] = bound;
+    }
+}
+
+/// The landmarks that a root and a detour choose in a connected network, and what they are to each node. It is refused for
+/// memory alone. Takes as long as `most_linked` and `Owners::of`.
+pub fn chosen_owners(
+    alloc: Global,
+    topology: &Topology,
+    root: u16,
+    detour: Detour,
+) -> Result<Owners, AllocError>
+    requires root { root < node_count topology.now }
+    requires connected { IsConnected topology.now }
+    ensures { IfOk result (AreChosenOwners topology.now root detour) }
+{
+    let landmarks = most_linked(alloc, topology, root, detour.landmarks as usize)?;
+    Owners::of(alloc, topology, landmarks)
 }
 
 /// The nodes of a connected network by label in a landmark plan: the blocks of the landmarks that a root and a detour

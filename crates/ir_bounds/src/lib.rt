@@ -2,15 +2,14 @@
 //! Zwick 2001). These rows have few intervals, and their ways are at most three times as long as the shortest.
 #![tactic(auto)]
 
-mod bounds;
 mod detours;
 mod landmarks;
+mod near;
 mod order;
 mod rows;
 mod trees;
 
-pub use bounds::Bounds;
-pub use detours::{LandmarkBounds, block_labels};
+pub use detours::{LandmarkBounds, block_labels, chosen_owners};
 pub use landmarks::Owners;
+pub use near::{near_list, near_part};
 pub use order::{block_order, most_linked};
-pub use rows::row_within;

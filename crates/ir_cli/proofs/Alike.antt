@@ -1,9 +1,7 @@
 -- Words that mean the same of one subcommand, with its options, flags and files, keep the same rules.
 use Rattle.std.proofs.Common.{◌≡◌, ◌≢◌, ◌∙◌, ◌==◌, ◌&&◌, ◌||◌, ℕ, Bool, true, false, not, List, map, length, Option, Some, None, refl, sym, ap, ap₂, string_bytes, codes, bytes_eq, is_some, option_map, true≢false}
 use Rattle.std.specs.Prelude.{if◌then◌else◌}
-use Rattle.std.specs.List.{list_all}
 use Rattle.std.proofs.lemmas.List.{length-map}
-use Rattle.std.proofs.lemmas.List.Folds.{list_all-map}
 use Rattle.std.proofs.lemmas.Slice.Eq.{bytes_eq-Decides}
 use Rattle.clap.specs.Words.{Row, Text, first_of}
 use Rattle.ir_cli.specs.declared.kinds.KindChoice.{KindChoice}
@@ -12,53 +10,47 @@ use Rattle.ir_cli.specs.Kinds.{is_landmark}
 use Rattle.ir_cli.specs.declared.words.Sub.{Sub}
 use Rattle.ir_cli.specs.declared.words.Sub.TheVariants as subs
 use Rattle.ir_cli.specs.declared.words.NumberingChoice.{NumberingChoice}
-use Rattle.ir_cli.specs.declared.words.NumberingChoice.TheVariants.{DepthFirst, Tour, File}
+use Rattle.ir_cli.specs.declared.words.NumberingChoice.TheVariants.{DepthFirst, Tour, Keep, File}
 use Rattle.ir_cli.specs.declared.words.Second.{Second}
 use Rattle.ir_cli.specs.declared.words.Span.{Span}
 use Rattle.ir_cli.specs.declared.words.Words.{Words}
-use Rattle.ir_cli.specs.Words.{AreTaken, FitsItsKind, alike, has_its_files, has_order, is_dash, is_file, has_landmark, has_script, is_no_dash, may_go_round, takes_detour, takes_drawing, takes_each, takes_list, takes_nodes, takes_numbering, texts_wanted}
-use Rattle.ir_cli.specs.Meaning.{AreNodes, HasItsNodes, HasItsSecond, HasWhatIsAsked, IsNumbering, IsSecond, IsKindWord, Means, first_kind, nodes_word, second_kind, numbering_word, second_word}
+use Rattle.ir_cli.specs.Words.{AreTaken, FitsItsKind, alike, are_named, has_its_files, has_order, is_dash, is_file, has_landmark, has_script, is_no_dash, may_go_round, takes_detour, takes_drawing, takes_each, takes_list, takes_nodes, takes_numbering, texts_wanted}
+use Rattle.ir_cli.specs.Meaning.{AreNodes, HasItsNodes, HasItsSecond, HasWhatIsAsked, IsNumbering, IsSecond, IsKindWord, Means, first_kind, keeps, nodes_word, second_kind, numbering_word, second_word}
 use Rattle.ir_cli.specs.CommandLine.{sub_word}
 
 -- ---- what a word says
 
-abbrev texts_by : Text → ℕ
-texts_by word = if bytes_eq word (codes "check") then 3 else if bytes_eq word (codes "sim") || bytes_eq word (codes "live") then 2 else 1
+abbrev sub_by : Text → Sub
+sub_by word =
+    if bytes_eq word (codes "plan") then subs.Plan
+    else if bytes_eq word (codes "walk") then subs.Walk
+    else if bytes_eq word (codes "stats") then subs.Stats
+    else if bytes_eq word (codes "compare") then subs.Compare
+    else if bytes_eq word (codes "diff") then subs.Diff
+    else if bytes_eq word (codes "draw") then subs.Draw
+    else if bytes_eq word (codes "prefixes") then subs.Prefixes
+    else if bytes_eq word (codes "ranges") then subs.Ranges
+    else if bytes_eq word (codes "xdp") then subs.Xdp
+    else if bytes_eq word (codes "sim") then subs.Sim
+    else if bytes_eq word (codes "live") then subs.Live
+    else subs.Check
 
-texts_by_word : (sub : Sub) → texts_by (sub_word sub) ≡ texts_wanted sub
-texts_by_word subs.Plan = refl
-texts_by_word subs.Walk = refl
-texts_by_word subs.Stats = refl
-texts_by_word subs.Compare = refl
-texts_by_word subs.Draw = refl
-texts_by_word subs.Prefixes = refl
-texts_by_word subs.Ranges = refl
-texts_by_word subs.Xdp = refl
-texts_by_word subs.Sim = refl
-texts_by_word subs.Live = refl
-texts_by_word subs.Check = refl
+sub_by_word : (sub : Sub) → sub_by (sub_word sub) ≡ sub
+sub_by_word subs.Plan = refl
+sub_by_word subs.Walk = refl
+sub_by_word subs.Stats = refl
+sub_by_word subs.Compare = refl
+sub_by_word subs.Diff = refl
+sub_by_word subs.Draw = refl
+sub_by_word subs.Prefixes = refl
+sub_by_word subs.Ranges = refl
+sub_by_word subs.Xdp = refl
+sub_by_word subs.Sim = refl
+sub_by_word subs.Live = refl
+sub_by_word subs.Check = refl
 
-abbrev script_by : Text → Bool
-script_by word = bytes_eq word (codes "sim") || (bytes_eq word (codes "live") || bytes_eq word (codes "check"))
-
-script_by_word : (sub : Sub) → script_by (sub_word sub) ≡ has_script sub
-script_by_word subs.Plan = refl
-script_by_word subs.Walk = refl
-script_by_word subs.Stats = refl
-script_by_word subs.Compare = refl
-script_by_word subs.Draw = refl
-script_by_word subs.Prefixes = refl
-script_by_word subs.Ranges = refl
-script_by_word subs.Xdp = refl
-script_by_word subs.Sim = refl
-script_by_word subs.Live = refl
-script_by_word subs.Check = refl
-
-same_scripts : (a b : Sub) → sub_word a ≡ sub_word b → has_script a ≡ has_script b
-same_scripts a b e = sym (script_by_word a) ∙ ap script_by e ∙ script_by_word b
-
-same_texts : (a b : Sub) → sub_word a ≡ sub_word b → texts_wanted a ≡ texts_wanted b
-same_texts a b e = sym (texts_by_word a) ∙ ap texts_by e ∙ texts_by_word b
+same_sub : (a b : Sub) → sub_word a ≡ sub_word b → a ≡ b
+same_sub a b e = sym (sub_by_word a) ∙ ap sub_by e ∙ sub_by_word b
 
 abbrev kind_by : Text → KindChoice
 kind_by word =
@@ -83,25 +75,38 @@ other_text a b other = go (bytes_eq a b) refl
 
 -- ---- the numbering of a word
 
-abbrev numbering_by : Text → KindChoice → Bool → Bool
-numbering_by word kind has_root =
-    if bytes_eq word (codes "depth-first") then true else if bytes_eq word (codes "tour") then takes_numbering Tour kind has_root
+-- a word that keeps labels
+abbrev keeps_by : Bool → Text → Bool
+keeps_by kept word = kept && bytes_eq word (codes "keep")
+
+abbrev numbering_by : Bool → Text → KindChoice → Bool → Bool
+numbering_by kept word kind has_root =
+    if bytes_eq word (codes "depth-first") then true else if bytes_eq word (codes "tour") then takes_list kind
+    else if keeps_by kept word then takes_list kind
     else is_no_dash word && not has_root
 
-abbrev file_by : Text → Bool
-file_by word = if bytes_eq word (codes "depth-first") then false else if bytes_eq word (codes "tour") then false else true
+abbrev file_by : Bool → Text → Bool
+file_by kept word =
+    if bytes_eq word (codes "depth-first") then false else if bytes_eq word (codes "tour") then false else if keeps_by kept word then false else true
 
-numbering_by_word : (numbering : NumberingChoice) (word : Text) (kind : KindChoice) (has_root : Bool) → IsNumbering numbering word
-    → takes_numbering numbering kind has_root ≡ numbering_by word kind has_root
-numbering_by_word DepthFirst word kind has_root is = sym (ap (λ w. numbering_by w kind has_root) is)
-numbering_by_word Tour word kind has_root is = sym (ap (λ w. numbering_by w kind has_root) is)
-numbering_by_word (File name) word kind has_root is =
-    rw (other_text word (codes "depth-first") is.1, other_text word (codes "tour") is.2) (ap (λ w. is_no_dash w && not has_root) (sym is.0))
+not_kept : (kept : Bool) (word : Text) → (kept ≡ true → word ≢ codes "keep") → keeps_by kept word ≡ false
+not_kept true word other = other_text word (codes "keep") (other refl)
+not_kept false word other = refl
 
-file_by_word : (numbering : NumberingChoice) (word : Text) → IsNumbering numbering word → is_file numbering ≡ file_by word
-file_by_word DepthFirst word is = sym (ap file_by is)
-file_by_word Tour word is = sym (ap file_by is)
-file_by_word (File name) word is = rw (other_text word (codes "depth-first") is.1, other_text word (codes "tour") is.2) refl
+numbering_by_word : (sub : Sub) (numbering : NumberingChoice) (word : Text) (kind : KindChoice) (has_root : Bool) → IsNumbering sub numbering word
+    → takes_numbering numbering kind has_root ≡ numbering_by (keeps sub) word kind has_root
+numbering_by_word sub DepthFirst word kind has_root is = sym (ap (λ w. numbering_by (keeps sub) w kind has_root) is)
+numbering_by_word sub Tour word kind has_root is = sym (ap (λ w. numbering_by (keeps sub) w kind has_root) is)
+numbering_by_word sub Keep word kind has_root is = sym (ap₂ (λ kept w. numbering_by kept w kind has_root) is.1 is.0)
+numbering_by_word sub (File name) word kind has_root is =
+    rw (other_text word (codes "depth-first") is.1, other_text word (codes "tour") is.2, not_kept (keeps sub) word is.3) (ap (λ w. is_no_dash w && not has_root) (sym is.0))
+
+file_by_word : (sub : Sub) (numbering : NumberingChoice) (word : Text) → IsNumbering sub numbering word → is_file numbering ≡ file_by (keeps sub) word
+file_by_word sub DepthFirst word is = sym (ap (file_by (keeps sub)) is)
+file_by_word sub Tour word is = sym (ap (file_by (keeps sub)) is)
+file_by_word sub Keep word is = sym (ap₂ file_by is.1 is.0)
+file_by_word sub (File name) word is =
+    rw (other_text word (codes "depth-first") is.1, other_text word (codes "tour") is.2, not_kept (keeps sub) word is.3) refl
 
 -- ---- what is given
 
@@ -112,14 +117,14 @@ given f (Some text) = refl
 same_given : {X : Type 0} (f : X → Text) (a b : Option X) (word : Option Text) → option_map f a ≡ word → option_map f b ≡ word → is_some a ≡ is_some b
 same_given f a b word is also = sym (given f a) ∙ ap is_some (is ∙ sym also) ∙ given f b
 
--- the files of a subcommand that reads so many texts
-abbrev files_by : ℕ → List Text → Bool
-files_by wanted files = is_dash files || ((length files == wanted) && list_all is_no_dash files)
+-- the files of a subcommand
+abbrev files_by : Sub → List Text → Bool
+files_by sub files = is_dash files || ((length files == texts_wanted sub) && are_named sub files)
 
-files_by_texts : (words : Words) → has_its_files words ≡ files_by (texts_wanted words.sub) (map string_bytes words.files.items)
+files_by_texts : (words : Words) → has_its_files words ≡ files_by words.sub (map string_bytes words.files.items)
 files_by_texts words =
-    ap₂ (λ (n : ℕ) (named : Bool). is_dash (map string_bytes words.files.items) || ((n == texts_wanted words.sub) && named))
-    (sym (length-map words.files.items string_bytes)) (sym (list_all-map is_no_dash string_bytes words.files.items))
+    ap (λ (n : ℕ). is_dash (map string_bytes words.files.items) || ((n == texts_wanted words.sub) && are_named words.sub (map string_bytes words.files.items)))
+    (sym (length-map words.files.items string_bytes))
 
 -- a second plan is read of a word, or none is
 no_second : (word : Text) (first : Option Text) (a b : Option Second) → IsSecond word first a → IsSecond word first b → b ≢ None → a ≢ None
@@ -158,16 +163,23 @@ none_too a (Some x) same none = absurd (true≢false (sym same ∙ ap is_some no
 -- ---- words that mean the same
 
 module _ (name : Text) (rows : List Row) (a b : Words) (is : Means name rows a) (also : Means name rows b) where
+  subs_same : a.sub ≡ b.sub
+  subs_same = same_sub a.sub b.sub (is.sub ∙ sym also.sub)
+
   same_files : has_its_files a ≡ has_its_files b
-  same_files = files_by_texts a ∙ ap₂ files_by (same_texts a.sub b.sub (is.sub ∙ sym also.sub)) (is.files ∙ sym also.files) ∙ sym (files_by_texts b)
+  same_files = files_by_texts a ∙ ap₂ files_by subs_same (is.files ∙ sym also.files) ∙ sym (files_by_texts b)
 
   kinds : a.kind ≡ b.kind
   kinds = same_kind a.kind b.kind (first_kind rows) is.kind also.kind
 
+  abbrev word : Text
+  word = numbering_word rows
+
   same_numbering : takes_numbering a.numbering a.kind (is_some a.root) ≡ takes_numbering b.numbering b.kind (is_some b.root)
-  same_numbering = numbering_by_word a.numbering (numbering_word rows) a.kind (is_some a.root) is.numbering
-      ∙ ap₂ (numbering_by (numbering_word rows)) kinds (same_given string_bytes a.root b.root (first_of (codes "root") rows) is.root also.root)
-      ∙ sym (numbering_by_word b.numbering (numbering_word rows) b.kind (is_some b.root) also.numbering)
+  same_numbering = numbering_by_word a.sub a.numbering word a.kind (is_some a.root) is.numbering
+      ∙ ap (λ (sub : Sub). numbering_by (keeps sub) word a.kind (is_some a.root)) subs_same
+      ∙ ap₂ (numbering_by (keeps b.sub) word) kinds (same_given string_bytes a.root b.root (first_of (codes "root") rows) is.root also.root)
+      ∙ sym (numbering_by_word b.sub b.numbering word b.kind (is_some b.root) also.numbering)
 
   abbrev drawing_by : Bool → Bool → Bool → Bool → Bool
   drawing_by from to node svg = alike from to && (not (node && from) && (not svg || node))
@@ -177,14 +189,15 @@ module _ (name : Text) (rows : List Row) (a b : Words) (is : Means name rows a) 
       ∙ ap₂ (drawing_by (is_some b.from) (is_some b.to)) (same_given string_bytes a.node b.node (first_of (codes "node") rows) is.node also.node) (is.svg ∙ sym also.svg)
 
   same_order : has_order a ≡ has_order b
-  same_order = file_by_word a.numbering (numbering_word rows) is.numbering ∙ sym (file_by_word b.numbering (numbering_word rows) also.numbering)
+  same_order = file_by_word a.sub a.numbering word is.numbering ∙ ap (λ (sub : Sub). file_by (keeps sub) word) subs_same
+      ∙ sym (file_by_word b.sub b.numbering word also.numbering)
 
   same_second : has_landmark a.second ≡ has_landmark b.second
   same_second = second_by_word (second_word rows) (first_of (codes "root") rows) a.second is.second
       ∙ sym (second_by_word (second_word rows) (first_of (codes "root") rows) b.second also.second)
 
   same_round : may_go_round a.sub a.kind a.second ≡ may_go_round b.sub b.kind b.second
-  same_round = ap₂ (λ (script landmark : Bool). script || (landmark || has_landmark a.second)) (same_scripts a.sub b.sub (is.sub ∙ sym also.sub)) (ap is_landmark kinds)
+  same_round = ap₂ (λ (script landmark : Bool). script || (landmark || has_landmark a.second)) (ap has_script subs_same) (ap is_landmark kinds)
       ∙ ap (λ (second : Bool). has_script b.sub || (is_landmark b.kind || second)) same_second
 
   same_detour : takes_detour a ≡ takes_detour b

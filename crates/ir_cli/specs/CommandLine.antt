@@ -66,6 +66,7 @@ sub_word subs.Plan = codes "plan"
 sub_word subs.Walk = codes "walk"
 sub_word subs.Stats = codes "stats"
 sub_word subs.Compare = codes "compare"
+sub_word subs.Diff = codes "diff"
 sub_word subs.Draw = codes "draw"
 sub_word subs.Prefixes = codes "prefixes"
 sub_word subs.Ranges = codes "ranges"
@@ -84,6 +85,7 @@ abbrev pub AreTheirWords : Choices → Type 0
 AreTheirWords choices = (texts choices.formats.now ≡ codes "adjlist" ∷ codes "edgelist" ∷ [])
     × (texts choices.kinds.now ≡ codes "tree" ∷ codes "shortest" ∷ codes "compact" ∷ codes "landmark" ∷ [])
     × (texts choices.numberings.now ≡ codes "depth-first" ∷ codes "tour" ∷ [])
+    × (texts choices.keepings.now ≡ codes "depth-first" ∷ codes "tour" ∷ codes "keep" ∷ [])
     × (texts choices.parts.now ≡ codes "table" ∷ [])
     × (texts choices.eaches.now ≡ codes "links" ∷ [])
 
@@ -186,6 +188,15 @@ module _ (choices : Choices) where
       ∷ needed (file (codes "topology"))
       ∷ []
 
+  -- what `diff` takes: how both plans are numbered, and the files of both topologies
+  abbrev pub differing : List Rule
+  differing =
+      lettered (codes "n") (or_else (codes "depth-first") (choice (codes "numbering") choices.keepings))
+      ∷ number (codes "threads") 1 MAX_THREADS
+      ∷ needed (file (codes "topology"))
+      ∷ file (codes "new")
+      ∷ []
+
   -- how the plans of a run are numbered
   abbrev pub run_numbering : Rule
   run_numbering = lettered (codes "n") (or_else (codes "depth-first") (choice (codes "numbering") choices.numberings))
@@ -216,6 +227,7 @@ module _ (choices : Choices) where
   rules_of subs.Walk = routed ++ shown ++ ends ++ telling
   rules_of subs.Stats = routed ++ shown ++ measured ++ telling
   rules_of subs.Compare = compared ++ as_json ++ telling
+  rules_of subs.Diff = routed ++ differing ++ as_json ++ telling
   rules_of subs.Draw = routed ++ shown ++ drawn ++ telling
   rules_of subs.Prefixes = routed ++ shown ++ prefixed ++ telling
   rules_of subs.Ranges = routed ++ shown ++ as_json ++ telling
@@ -229,7 +241,7 @@ module _ (choices : Choices) where
 
   abbrev pub subcommands : List Shape
   subcommands =
-      map subcommand (subs.Plan ∷ subs.Walk ∷ subs.Stats ∷ subs.Compare ∷ subs.Draw ∷ subs.Prefixes ∷ subs.Ranges
+      map subcommand (subs.Plan ∷ subs.Walk ∷ subs.Stats ∷ subs.Compare ∷ subs.Diff ∷ subs.Draw ∷ subs.Prefixes ∷ subs.Ranges
       ∷ subs.Xdp ∷ subs.Sim ∷ subs.Live ∷ subs.Check ∷ [])
 
   -- the program

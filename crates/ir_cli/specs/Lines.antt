@@ -18,7 +18,7 @@ use Rattle.ir_script.specs.declared.order_fault.OrderFaultKind.{OrderFaultKind}
 use Rattle.ir_script.specs.Script as scripts
 use Rattle.ir_script.specs.declared.fault.ScriptFault.{ScriptFault}
 use Rattle.ir_cli.specs.declared.read.Source.{Source}
-use Rattle.ir_cli.specs.declared.read.Source.TheVariants.{Input, Topology, Script, Trace, Numbering}
+use Rattle.ir_cli.specs.declared.read.Source.TheVariants.{Input, Topology, New, Script, Trace, Numbering}
 
 -- `WHAT LINE NAME`
 abbrev pub numbered_line : List ℕ → ℕ → List ℕ → List ℕ
@@ -109,6 +109,17 @@ ok_line rows = codes "ok" ++ spaced (decimal rows) ++ 10 ∷ []
 abbrev pub topology_line : ℕ × Fault → List ℕ
 topology_line f = numbered_line (codes "topology") f.0 (fault_name f.1)
 
+-- `new LINE KIND`
+abbrev pub new_line : ℕ × Fault → List ℕ
+new_line f = numbered_line (codes "new") f.0 (fault_name f.1)
+
+-- the lines of a node that the new network alone has, and of one that the old network alone has
+abbrev pub new_node_line : List ℕ
+new_node_line = codes "new UnknownNode\n"
+
+abbrev pub gone_line : List ℕ
+gone_line = codes "new Missing\n"
+
 -- `script LINE KIND`
 abbrev pub script_line : ℕ × ScriptFault → List ℕ
 script_line f = numbered_line (codes "script") f.0 (script_fault_name f.1)
@@ -120,6 +131,10 @@ numbering_line f = numbered_line (codes "numbering") f.0 (order_fault_name f.1)
 -- `opening NAME`
 abbrev pub opening_line : OpenError → List ℕ
 opening_line e = codes "opening " ++ open_error_name e ++ 10 ∷ []
+
+-- `new NAME`
+abbrev pub new_opening_line : OpenError → List ℕ
+new_opening_line e = codes "new " ++ open_error_name e ++ 10 ∷ []
 
 -- `refused LINE NAME`
 abbrev pub refused_line : ℕ → Refused → List ℕ
@@ -141,6 +156,7 @@ steps_text steps = flat_map step_line steps
 abbrev pub source_name : Source → List ℕ
 source_name Input = codes "input"
 source_name Topology = codes "topology"
+source_name New = codes "new"
 source_name Script = codes "script"
 source_name Trace = codes "trace"
 source_name Numbering = codes "numbering"

@@ -1,5 +1,5 @@
 -- What the words behind the program's name mean, field by field.
-use Rattle.std.specs.Prelude.{◌≡◌, ◌≢◌, ◌≤◌, ◌<◌, ◌^◌, ◌==◌, ℕ, Bool, false, not, ◌&&◌, ◌||◌, is_some, if◌then◌else◌, List, [], ◌∷◌, ◌++◌, map, Option, Some, None, MatchOption, unwrap_or, option_map, option_to_list, bytes_eq, codes, string_bytes}
+use Rattle.std.specs.Prelude.{◌≡◌, ◌≢◌, ◌≤◌, ◌<◌, ◌^◌, ◌==◌, ℕ, Bool, true, false, not, ◌&&◌, ◌||◌, is_some, if◌then◌else◌, List, [], ◌∷◌, ◌++◌, map, Option, Some, None, MatchOption, unwrap_or, option_map, option_to_list, bytes_eq, codes, string_bytes}
 use Rattle.std.specs.Option.{option_map_or, option_or}
 use Rattle.std.specs.List.{list_any, before_first, after_first}
 use Rattle.std.specs.Str.Parse.{IsNumeral, digits_value, without_leading_plus}
@@ -12,9 +12,11 @@ use Rattle.ir_cli.specs.declared.kinds.KindChoice.TheVariants.{Tree, Shortest, C
 use Rattle.ir_cli.specs.declared.words.Format.{Format}
 use Rattle.ir_cli.specs.declared.words.Format.TheVariants.{AdjList, EdgeList}
 use Rattle.ir_cli.specs.declared.words.NumberingChoice.{NumberingChoice}
-use Rattle.ir_cli.specs.declared.words.NumberingChoice.TheVariants.{DepthFirst, Tour, File}
+use Rattle.ir_cli.specs.declared.words.NumberingChoice.TheVariants.{DepthFirst, Tour, Keep, File}
 use Rattle.ir_cli.specs.declared.words.Second.{Second}
 use Rattle.ir_cli.specs.declared.words.Span.{Span}
+use Rattle.ir_cli.specs.declared.words.Sub.{Sub}
+use Rattle.ir_cli.specs.declared.words.Sub.TheVariants.{Diff}
 use Rattle.ir_cli.specs.declared.words.Words.{Words}
 use Rattle.ir_cli.specs.Words.{format_of_name}
 use Rattle.ir_cli.specs.declared.help.Called.{Called}
@@ -37,23 +39,30 @@ format_word EdgeList = codes "edgelist"
 abbrev pub first_kind : List Row → Text
 first_kind rows = unwrap_or (first_of (codes "kind") rows) (codes "shortest")
 
+-- the subcommand may keep labels
+abbrev pub keeps : Sub → Bool
+keeps Diff = true
+keeps sub = false
+
 -- a word that names no order of its own is the name of a file
-abbrev pub IsNumbering : NumberingChoice → Text → Type 0
-IsNumbering DepthFirst word = word ≡ codes "depth-first"
-IsNumbering Tour word = word ≡ codes "tour"
-IsNumbering (File name) word = (word ≡ string_bytes name) × (word ≢ codes "depth-first") × (word ≢ codes "tour")
+abbrev pub IsNumbering : Sub → NumberingChoice → Text → Type 0
+IsNumbering sub DepthFirst word = word ≡ codes "depth-first"
+IsNumbering sub Tour word = word ≡ codes "tour"
+IsNumbering sub Keep word = (word ≡ codes "keep") × (keeps sub ≡ true)
+IsNumbering sub (File name) word =
+    (word ≡ string_bytes name) × (word ≢ codes "depth-first") × (word ≢ codes "tour") × (keeps sub ≡ true → word ≢ codes "keep")
 
 -- the word that numbers the nodes
 abbrev pub numbering_word : List Row → Text
 numbering_word rows = unwrap_or (first_of (codes "numbering") rows) (codes "depth-first")
 
--- the topology's file, whose name says the format where `--format` does not
-abbrev pub topology_name : List Row → Text
-topology_name rows = unwrap_or (first_of (codes "topology") rows) (codes "-")
+-- the file of a topology, whose name says the format where `--format` does not
+abbrev pub topology_name : Text → List Row → Text
+topology_name place rows = unwrap_or (first_of place rows) (codes "-")
 
-abbrev pub IsFormat : Format → List Row → Type 0
-IsFormat format rows =
-    MatchOption (first_of (codes "format") rows) (format ≡ format_of_name (topology_name rows)) (λ word. word ≡ format_word format)
+abbrev pub IsFormat : Text → Format → List Row → Type 0
+IsFormat place format rows =
+    MatchOption (first_of (codes "format") rows) (format ≡ format_of_name (topology_name place rows)) (λ word. word ≡ format_word format)
 
 -- What an option of this name is given is a decimal number in a range; or the option is not given, and has no default.
 abbrev pub IsNumber : Text → List Row → ℕ → ℕ → Option ℕ → Type 0
@@ -77,8 +86,8 @@ is_set name rows = option_map_or (λ word. bytes_eq word (codes "true")) (first_
 
 -- the files, in order
 abbrev pub files_in : List Row → List Text
-files_in rows = option_to_list (first_of (codes "topology") rows) ++ option_to_list (first_of (codes "script") rows)
-    ++ option_to_list (first_of (codes "trace") rows)
+files_in rows = option_to_list (first_of (codes "topology") rows) ++ option_to_list (first_of (codes "new") rows)
+    ++ option_to_list (first_of (codes "script") rows) ++ option_to_list (first_of (codes "trace") rows)
 
 -- the word of a second plan
 abbrev pub second_word : List Row → Text
@@ -143,11 +152,12 @@ HasWhatIsAsked rows words = HasItsSecond rows words × HasItsNodes rows words
 -- The words of a subcommand of this name, with these options, flags and files, mean this.
 pub record Means (name : Text) (rows : List Row) (words : Words) : Type 0 where
   pub sub : sub_word words.sub ≡ name
-  pub format : IsFormat words.format rows
+  pub format : IsFormat (codes "topology") words.format rows
+  pub new_format : IsFormat (codes "new") words.new_format rows
   pub kind : IsKindWord words.kind (first_kind rows)
   pub detour : IsDetour words.detour rows
   pub root : option_map string_bytes words.root ≡ first_of (codes "root") rows
-  pub numbering : IsNumbering words.numbering (numbering_word rows)
+  pub numbering : IsNumbering words.sub words.numbering (numbering_word rows)
   pub capacity : IsNumberElse (codes "capacity") rows 1 MAX_CAPACITY (digits_value 10 DEFAULT_CAPACITY.now) words.capacity
   pub packets : IsNumberElse (codes "packets") rows 1 MAX_PACKETS (digits_value 10 DEFAULT_PACKETS.now) words.packets
   pub restamps : IsNumberElse (codes "restamps") rows 0 MAX_RESTAMPS (digits_value 10 DEFAULT_RESTAMPS.now) words.restamps

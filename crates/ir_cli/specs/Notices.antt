@@ -7,13 +7,17 @@ use Rattle.ir_cli.specs.declared.notice.Notice.TheVariants as notices
 use Rattle.ir_cli.specs.declared.outcome.Told.{Told}
 use Rattle.ir_cli.specs.declared.outcome.Told.TheVariants.{Steps, Fault}
 use Rattle.ir_cli.specs.Answer.{Answer, Found, printed}
-use Rattle.ir_cli.specs.Lines.{topology_line, script_line, numbering_line, opening_line, finding_line, whole_line, ok_line, steps_text, unreadable_line, too_large_line, unwritable_line, out_of_memory_line, no_thread_line}
+use Rattle.ir_cli.specs.Lines.{topology_line, new_line, new_node_line, gone_line, new_opening_line, script_line, numbering_line, opening_line, finding_line, whole_line, ok_line, steps_text, unreadable_line, too_large_line, unwritable_line, out_of_memory_line, no_thread_line}
 
 -- the line of a notice
 abbrev pub notice_line : Notice → List ℕ
 notice_line (notices.Unreadable source) = unreadable_line source
 notice_line (notices.TooLarge source) = too_large_line source
 notice_line (notices.Topology error) = topology_line (error.line, error.kind)
+notice_line (notices.New error) = new_line (error.line, error.kind)
+notice_line (notices.NewNode u) = new_node_line
+notice_line (notices.Gone u) = gone_line
+notice_line (notices.NewOpening error) = new_opening_line error
 notice_line (notices.Script error) = script_line (error.line, error.kind)
 notice_line (notices.Numbering fault) = numbering_line (fault.line, fault.kind)
 notice_line (notices.Opening error) = opening_line error

@@ -16,12 +16,12 @@ use Rattle.ir_core.specs.declared.event.OpenError.TheVariants.{Empty, NoNode}
 use Rattle.ir_cli.specs.declared.words.Format.{Format}
 use Rattle.ir_cli.specs.declared.words.Format.TheVariants.{AdjList, EdgeList}
 use Rattle.ir_cli.specs.declared.words.NumberingChoice.{NumberingChoice}
-use Rattle.ir_cli.specs.declared.words.NumberingChoice.TheVariants.{DepthFirst, Tour, File}
+use Rattle.ir_cli.specs.declared.words.NumberingChoice.TheVariants.{DepthFirst, Tour, Keep, File}
 use Rattle.ir_cli.specs.declared.words.Words.{Words}
 use Rattle.ir_cli.specs.Kinds.{detour_of, kind_of}
 use Rattle.ir_cli.specs.Answer.{Answer, Refused}
 use Rattle.ir_script.specs.Order.{order_fault, IsOrder}
-use Rattle.ir_cli.specs.Lines.{topology_line, numbering_line, opening_line}
+use Rattle.ir_cli.specs.Lines.{topology_line, new_line, numbering_line, opening_line}
 
 -- the first fault of the lines of a topology text, and their graph
 abbrev pub topology_fault : Format → List (List ℕ) → Option (ℕ × Fault)
@@ -41,10 +41,11 @@ abbrev pub root_in : List Name → Option Name → Option ℕ
 root_in nodes None = Some 0
 root_in nodes (Some name) = position (bytes_eq name) nodes
 
--- the order in which the plans of a run are labelled; that of a file is no run's
+-- the order in which the plans of a run are labelled; that of a file is no run's, and one that is kept is at first a tour's
 abbrev pub label_order : NumberingChoice → LabelOrder
 label_order DepthFirst = orders.DepthFirst
 label_order Tour = orders.Tour
+label_order Keep = orders.Tour
 label_order (File name) = orders.DepthFirst
 
 -- the kind that the words ask for, of plans of so many nodes
@@ -71,6 +72,11 @@ no_root g = if length g == 0 then Empty else NoNode
 abbrev pub AnswersTopology : Format → List (List ℕ) → (Adjacency → Answer → Type 0) → Answer → Type 0
 AnswersTopology format ls answers answer =
     MatchOption (topology_fault format ls) (answers (topology_graph format ls) answer) (λ f. answer ≡ Refused (topology_line f))
+
+-- the same of the new topology
+abbrev pub AnswersNew : Format → List (List ℕ) → (Adjacency → Answer → Type 0) → Answer → Type 0
+AnswersNew format ls answers answer =
+    MatchOption (topology_fault format ls) (answers (topology_graph format ls) answer) (λ f. answer ≡ Refused (new_line f))
 
 -- The answer to a graph and the name of a root: the refusal of a root that is no node, or else an answer to its number.
 abbrev pub AnswersRoot : Adjacency → Option Name → (ℕ → Answer → Type 0) → Answer → Type 0

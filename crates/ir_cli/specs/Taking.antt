@@ -11,7 +11,7 @@ use Rattle.ir_cli.specs.declared.options.Accepts.TheVariants.{Nothing, WordOf, N
 use Rattle.ir_cli.specs.declared.options.Need.{Need}
 use Rattle.ir_cli.specs.declared.options.Need.TheVariants.{Free, Must, Else}
 use Rattle.ir_cli.specs.declared.options.Choice.{Choice}
-use Rattle.ir_cli.specs.declared.options.Choice.TheVariants.{Format, Kind, Numbering, Part, Each}
+use Rattle.ir_cli.specs.declared.options.Choice.TheVariants.{Format, Kind, Numbering, Keeping, Part, Each}
 use Rattle.ir_cli.specs.declared.options.Choices.{Choices}
 use Rattle.ir_cli.specs.declared.options.Taken.{Taken}
 
@@ -30,6 +30,7 @@ abbrev pub choice_words : Choices → Choice → Bor (List (Bor Text))
 choice_words choices Format = choices.formats
 choice_words choices Kind = choices.kinds
 choice_words choices Numbering = choices.numberings
+choice_words choices Keeping = choices.keepings
 choice_words choices Part = choices.parts
 choice_words choices Each = choices.eaches
 

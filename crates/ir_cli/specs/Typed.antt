@@ -11,7 +11,8 @@ use Rattle.ir_cli.specs.CommandLine.{sub_word}
 -- the fields of words that are names of a list or numbers
 pub record AreTyped (name : Text) (rows : List Row) (all : Chosen) : Type 0 where
   pub sub : sub_word all.sub ≡ name
-  pub format : IsFormat all.format rows
+  pub format : IsFormat (codes "topology") all.format rows
+  pub new_format : IsFormat (codes "new") all.new_format rows
   pub kind : IsKindWord all.kind (first_kind rows)
   pub detour : IsDetour all.detour rows
   pub capacity : IsNumberElse (codes "capacity") rows 1 MAX_CAPACITY (digits_value 10 DEFAULT_CAPACITY.now) all.capacity

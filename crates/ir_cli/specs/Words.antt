@@ -1,15 +1,15 @@
 -- What the words of the command line say of their files, and the numbers of their refusals.
 use Rattle.std.specs.Prelude.{◌≡◌, ℕ, ◌==◌, Bool, true, false, not, is_some, Option, Some, None, List, [], ◌∷◌, ◌&&◌, ◌||◌, ◌-◌, if◌then◌else◌, bytes_eq, codes, string_bytes, map, length, drop, slice_get}
 use Rattle.ir_model.specs.Graph.{Name}
-use Rattle.std.specs.List.{list_all}
+use Rattle.std.specs.List.{list_all, list_any}
 use Rattle.std.specs.Option.{option_map_or}
 use Rattle.ir_cli.specs.declared.kinds.KindChoice.{KindChoice}
 use Rattle.ir_cli.specs.declared.kinds.KindChoice.TheVariants.{Tree, Shortest, Compact, Landmark}
 use Rattle.ir_cli.specs.declared.words.Second.{Second}
 use Rattle.ir_cli.specs.declared.words.Sub.{Sub}
-use Rattle.ir_cli.specs.declared.words.Sub.TheVariants.{Sim, Live, Check}
+use Rattle.ir_cli.specs.declared.words.Sub.TheVariants.{Diff, Sim, Live, Check}
 use Rattle.ir_cli.specs.declared.words.NumberingChoice.{NumberingChoice}
-use Rattle.ir_cli.specs.declared.words.NumberingChoice.TheVariants.{DepthFirst, Tour, File}
+use Rattle.ir_cli.specs.declared.words.NumberingChoice.TheVariants.{DepthFirst, Tour, Keep, File}
 use Rattle.ir_cli.specs.declared.words.Words.{Words}
 use Rattle.ir_cli.specs.declared.words.Format.{Format}
 use Rattle.ir_cli.specs.declared.words.Format.TheVariants.{AdjList, EdgeList}
@@ -36,6 +36,7 @@ abbrev pub order_name : NumberingChoice → Name
 order_name (File name) = string_bytes name
 order_name DepthFirst = codes "-"
 order_name Tour = codes "-"
+order_name Keep = codes "-"
 
 -- a name ends in these letters
 abbrev pub ends_in : Name → Name → Bool
@@ -43,6 +44,7 @@ ends_in name ending = bytes_eq ending (drop (length name - length ending) name)
 
 -- how many texts a subcommand reads
 abbrev pub texts_wanted : Sub → ℕ
+texts_wanted Diff = 2
 texts_wanted Sim = 2
 texts_wanted Live = 2
 texts_wanted Check = 3
@@ -52,10 +54,19 @@ texts_wanted _ = 1
 abbrev pub is_no_dash : Name → Bool
 is_no_dash file = not (bytes_eq file (codes "-"))
 
--- the files are `-` alone, or one for each text, of which none is `-`
+-- one of several files may be `-`
+abbrev pub takes_dash : Sub → Bool
+takes_dash Diff = true
+takes_dash sub = false
+
+-- none of the files is `-`, or where one may be, not all of them are
+abbrev pub are_named : Sub → List Name → Bool
+are_named sub files = if takes_dash sub then list_any is_no_dash files else list_all is_no_dash files
+
+-- the files are `-` alone, or one for each text, which are named
 abbrev pub has_its_files : Words → Bool
 has_its_files words = is_one_input words
-    || ((length words.files.items == texts_wanted words.sub) && list_all (λ file. is_no_dash (string_bytes file)) words.files.items)
+    || ((length words.files.items == texts_wanted words.sub) && are_named words.sub (map string_bytes words.files.items))
 
 -- a kind's nodes may be numbered in another order than depth first: it is of no tree, and of no landmarks
 abbrev pub takes_list : KindChoice → Bool
@@ -64,10 +75,11 @@ takes_list Shortest = true
 takes_list Compact = true
 takes_list Landmark = false
 
--- a tour is of a kind that takes another order, and a file of an order is no dash and is beside no root
+-- a tour is of a kind that takes another order, as labels that are kept are, and a file of an order is no dash and is beside no root
 abbrev pub takes_numbering : NumberingChoice → KindChoice → Bool → Bool
 takes_numbering DepthFirst kind has_root = true
 takes_numbering Tour kind has_root = takes_list kind
+takes_numbering Keep kind has_root = takes_list kind
 takes_numbering (File name) kind has_root = is_no_dash (string_bytes name) && not has_root
 
 abbrev pub has_its_numbering : Words → Bool
@@ -124,6 +136,7 @@ format_of_name name = if ends_in name (codes ".edgelist") || ends_in name (codes
 abbrev pub is_file : NumberingChoice → Bool
 is_file DepthFirst = false
 is_file Tour = false
+is_file Keep = false
 is_file (File name) = true
 
 abbrev pub has_order : Words → Bool

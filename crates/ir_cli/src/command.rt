@@ -22,16 +22,19 @@ static KINDS: [&str; 4] = ["tree", "shortest", "compact", "landmark"];
 
 static NUMBERINGS: [&str; 2] = ["depth-first", "tour"];
 
+static KEEPINGS: [&str; 3] = ["depth-first", "tour", "keep"];
+
 static PARTS: [&str; 1] = ["table"];
 
 static EACHES: [&str; 1] = ["links"];
 
 /// The subcommands, as help lists them.
-static SUBCOMMANDS: [Sub; 11] = [
+static SUBCOMMANDS: [Sub; 12] = [
     Sub::Plan,
     Sub::Walk,
     Sub::Stats,
     Sub::Compare,
+    Sub::Diff,
     Sub::Draw,
     Sub::Prefixes,
     Sub::Ranges,
@@ -68,6 +71,7 @@ fn words_of<'a>(choices: Choices<'a>, choice: Choice) -> &'a [&'a str]
         Choice::Format => choices.formats,
         Choice::Kind => choices.kinds,
         Choice::Numbering => choices.numberings,
+        Choice::Keeping => choices.keepings,
         Choice::Part => choices.parts,
         Choice::Each => choices.eaches,
     }
@@ -201,6 +205,7 @@ fn choices_told<'a>() -> Choices<'a>
         formats: FORMATS.as_slice(),
         kinds: KINDS.as_slice(),
         numberings: NUMBERINGS.as_slice(),
+        keepings: KEEPINGS.as_slice(),
         parts: PARTS.as_slice(),
         eaches: EACHES.as_slice(),
     }

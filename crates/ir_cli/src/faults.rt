@@ -1,9 +1,9 @@
 //! The rules of words that are taken, and the message where one is broken.
 
-ghost use Rattle.std.specs.Prelude.{◌≡◌, true, false, MatchOption, string_bytes};
-ghost use Rattle.std.specs.List.{list_all};
+ghost use Rattle.std.specs.Prelude.{◌≡◌, true, false, MatchOption, map, string_bytes};
+ghost use Rattle.std.specs.List.{list_all, list_any};
 ghost use Rattle.clap.specs.Words.{found_of, rows_of};
-ghost use Rattle.ir_cli.specs.Words.{AreTaken, FitsItsKind, has_its_files, has_its_numbering, is_no_dash, may_go_round, takes_detour, takes_drawing, takes_each, takes_list, takes_nodes, texts_wanted};
+ghost use Rattle.ir_cli.specs.Words.{AreTaken, FitsItsKind, are_named, has_its_files, has_its_numbering, is_no_dash, may_go_round, takes_dash, takes_detour, takes_drawing, takes_each, takes_list, takes_nodes, texts_wanted};
 ghost use Rattle.ir_cli.specs.Meaning.{HasItsNodes, HasItsSecond, HasWhatIsAsked};
 
 use crate::help::{Called, texts_of, usage_of};
@@ -18,25 +18,50 @@ fn texts_wanted(sub: Sub) -> usize
     ensures { result ≡ texts_wanted sub }
 {
     match sub {
-        Sub::Sim | Sub::Live => 2,
+        Sub::Diff | Sub::Sim | Sub::Live => 2,
         Sub::Check => 3,
         _ => 1,
     }
 }
 
+/// Whether one of several files may be standard input.
+fn takes_dash(sub: Sub) -> bool
+    ensures { result ≡ takes_dash sub }
+{
+    matches!(sub, Sub::Diff)
+}
+
+/// Whether one of the files is not standard input.
+fn is_one_named(files: &[String]) -> bool
+    ensures { result ≡ list_any (λ file. is_no_dash (string_bytes file)) files.now }
+{
+    files.iter().any(|file| file.as_str() != "-")
+}
+
 /// Whether none of the files is standard input.
-fn are_named(files: &[String]) -> bool
+fn are_all_named(files: &[String]) -> bool
     ensures { result ≡ list_all (λ file. is_no_dash (string_bytes file)) files.now }
 {
     files.iter().all(|file| file.as_str() != "-")
 }
 
-/// Whether the files are `-` alone, or one for each text with no `-` among them.
+/// Whether none of the files is standard input, or where one may be, not all of them are.
+fn are_named(sub: Sub, files: &[String]) -> bool
+    ensures { result ≡ are_named sub (map string_bytes files.now) }
+{
+    if takes_dash(sub) {
+        is_one_named(files)
+    } else {
+        are_all_named(files)
+    }
+}
+
+/// Whether the files are `-` alone, or one for each text with no `-` among them, or one for `diff`.
 fn has_its_files(words: &Words) -> bool
     ensures { result ≡ has_its_files words.now }
 {
     words.is_one_input()
-        || (words.files.len() == texts_wanted(words.sub) && are_named(&words.files))
+        || (words.files.len() == texts_wanted(words.sub) && are_named(words.sub, &words.files))
 }
 
 /// That a tree takes another numbering than depth first.
@@ -62,7 +87,7 @@ fn numbering_fault(words: &Words) -> Option<&'static str>
     ensures { MatchOption result (has_its_numbering words.now ≡ true) (λ _. has_its_numbering words.now ≡ false) }
 {
     match &words.numbering {
-        NumberingChoice::Tour => list_fault(words.kind),
+        NumberingChoice::Tour | NumberingChoice::Keep => list_fault(words.kind),
         NumberingChoice::File(name) if name.as_str() == "-" => {
             Some("'--numbering' takes 'depth-first', 'tour' or a file name, not '-'")
         }
@@ -140,6 +165,7 @@ fn each_fault(words: &Words) -> Option<&'static str>
 fn files_wanted(called: Called, sub: Sub) -> &'static str {
     let texts = texts_of(called);
     match sub {
+        Sub::Diff => texts.diff_files,
         Sub::Live => texts.live_files,
         Sub::Check => texts.check_files,
         _ => texts.sim_files,

@@ -74,16 +74,19 @@ Lines of a script:
 pub struct HelpTexts {
     pub name: &'static str,
     pub about: &'static str,
-    /// What follows the help of `prefixes`, `ranges`, `xdp` and `compare`.
+    /// What follows the help of `prefixes`, `ranges`, `xdp`, `compare` and `diff`.
     pub prefixes: &'static str,
     pub ranges: &'static str,
     pub xdp: &'static str,
     pub compare: &'static str,
-    /// How the words of `sim`, `live` and `check` are to look.
+    pub diff: &'static str,
+    /// How the words of `diff`, `sim`, `live` and `check` are to look.
+    pub diff_usage: &'static str,
     pub sim_usage: &'static str,
     pub live_usage: &'static str,
     pub check_usage: &'static str,
     /// Which files they take.
+    pub diff_files: &'static str,
     pub sim_files: &'static str,
     pub live_files: &'static str,
     pub check_files: &'static str,
@@ -156,9 +159,26 @@ Example, for a ring of four nodes:
   landmark-200 blocks 8 2 24 16/16 1/1 cycle
   landmark-300 blocks 7 2 21 18/16 3/1 acyclic
   tables - - - 12 - - -"),
+            diff: concat!("\
+Printed lines:
+  diff KIND KIND N CHANGED LABELS REMOVED PUT      The numbers of nodes, of nodes that change, of new labels, and of
+                                                   starts that are removed and put
+  NODE WAS LABEL [- START] [+ START NEXT]...       What a node changes: its label before and now, and by ascending
+                                                   starts those that go, and those that come or get another neighbour
+
+Example, for a ring of the nodes a, b, c and d, of which the link from d to a goes:
+  $ ", $name, " diff --numbering keep OLD NEW
+  diff shortest shortest 4 2 0 2 0
+  a 0 0 - 3
+  d 3 3 - 0
+
+With keep the new plan has the labels of the old one, so that few nodes change. A node builds its new row beside the
+old one, never in place."),
+            diff_usage: concat!($name, " diff [OPTIONS] <OLD> <NEW>\n       ", $name, " diff [OPTIONS] -"),
             sim_usage: concat!($name, " sim [OPTIONS] <TOPOLOGY> <SCRIPT>\n       ", $name, " sim [OPTIONS] -"),
             live_usage: concat!($name, " live [OPTIONS] <TOPOLOGY> <SCRIPT>\n       ", $name, " live [OPTIONS] -"),
             check_usage: concat!($name, " check [OPTIONS] <TOPOLOGY> <SCRIPT> <TRACE>\n       ", $name, " check [OPTIONS] -"),
+            diff_files: concat!("'", $name, " diff' takes two topology files, of which one may be '-', or '-' alone"),
             sim_files: concat!("'", $name, " sim' takes a topology file and a script file, or '-' alone"),
             live_files: concat!("'", $name, " live' takes a topology file and a script file, or '-' alone"),
             check_files: concat!("'", $name, " check' takes a topology file, a script file and a trace file, or '-' alone"),
@@ -184,6 +204,7 @@ pub fn texts_of(called: Called) -> &'static HelpTexts
 pub fn usage_of(called: Called, sub: Sub) -> &'static str {
     let texts = texts_of(called);
     match sub {
+        Sub::Diff => texts.diff_usage,
         Sub::Sim => texts.sim_usage,
         Sub::Live => texts.live_usage,
         Sub::Check => texts.check_usage,
@@ -197,6 +218,7 @@ pub fn lines_of(called: Called, sub: Sub) -> &'static str {
     match sub {
         Sub::Plan | Sub::Walk | Sub::Stats | Sub::Draw => "",
         Sub::Compare => texts.compare,
+        Sub::Diff => texts.diff,
         Sub::Prefixes => texts.prefixes,
         Sub::Ranges => texts.ranges,
         Sub::Xdp => texts.xdp,
@@ -207,16 +229,18 @@ pub fn lines_of(called: Called, sub: Sub) -> &'static str {
 }
 
 /// The names of the subcommands, in their order.
-static NAMES: [&str; 11] = [
-    "plan", "walk", "stats", "compare", "draw", "prefixes", "ranges", "xdp", "sim", "live", "check",
+static NAMES: [&str; 12] = [
+    "plan", "walk", "stats", "compare", "diff", "draw", "prefixes", "ranges", "xdp", "sim", "live",
+    "check",
 ];
 
 /// What they do, as help states it.
-static ABOUTS: [&str; 11] = [
+static ABOUTS: [&str; 12] = [
     "Print the label and the intervals of each node",
     "Print the path from one node to another, with the interval that each node uses",
     "Print the figures of a plan: its intervals, its greatest row, its paths",
     "Print the figures of plans of all kinds and numberings, and of full tables",
+    "Print what each node changes between the plans of two networks of the same nodes",
     "Print a drawing of a plan, for Graphviz or as SVG",
     "Print forwarding tables of the fewest label prefixes, for longest prefix match",
     "Print forwarding tables of the fewest label ranges, for tables that match ranges",

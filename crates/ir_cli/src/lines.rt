@@ -117,6 +117,7 @@ pub fn unreadable_line(source: Source) -> &'static str
     match source {
         Source::Input => "input unreadable\n",
         Source::Topology => "topology unreadable\n",
+        Source::New => "new unreadable\n",
         Source::Script => "script unreadable\n",
         Source::Trace => "trace unreadable\n",
         Source::Numbering => "numbering unreadable\n",
@@ -130,6 +131,7 @@ pub fn too_large_line(source: Source) -> &'static str
     match source {
         Source::Input => "input too large\n",
         Source::Topology => "topology too large\n",
+        Source::New => "new too large\n",
         Source::Script => "script too large\n",
         Source::Trace => "trace too large\n",
         Source::Numbering => "numbering too large\n",
@@ -144,6 +146,12 @@ pub fn notice_line(alloc: Global, notice: Notice) -> Result<String, AllocError>
         Notice::Unreadable(source) => String::from_str(alloc, unreadable_line(source)),
         Notice::TooLarge(source) => String::from_str(alloc, too_large_line(source)),
         Notice::Topology(e) => line_of(alloc, "topology", e.line, FAULTS[e.kind as usize - 1]),
+        Notice::New(e) => line_of(alloc, "new", e.line, FAULTS[e.kind as usize - 1]),
+        Notice::NewNode(_) => String::from_str(alloc, "new UnknownNode\n"),
+        Notice::Gone(_) => String::from_str(alloc, "new Missing\n"),
+        Notice::NewOpening(error) => {
+            format!(in alloc; "new {}\n", OPENINGS[error.code() as usize - 1])
+        }
         Notice::Script(e) => line_of(alloc, "script", e.line, SCRIPT_FAULTS[e.kind as usize - 1]),
         Notice::Numbering(e) => { line_of(alloc, "numbering", e.line, ORDERS[e.kind as usize - 1]) }
         Notice::Opening(error) => {

@@ -14,6 +14,14 @@ pub enum Notice {
     /// An input has too many bytes.
     TooLarge(Source),
     Topology(TextError),
+    /// What is wrong with the new topology.
+    New(TextError),
+    /// A node of the new network that the old one has not, by its number there.
+    NewNode(u16),
+    /// A node of the old network that the new one has not, by its number there.
+    Gone(u16),
+    /// Why there is no plan of the new network.
+    NewOpening(OpenError),
     Script(ScriptError),
     Numbering(OrderFault),
     Opening(OpenError),

@@ -48,12 +48,13 @@ pub fn no_root(graph: &Graph) -> OpenError
     }
 }
 
-/// The order in which the plans of a run are labelled. That of a file is no run's, and given as depth first.
+/// The order in which the plans of a run are labelled. That of a file is no run's, and given as depth first. One that is
+/// kept is at first a tour's.
 pub fn label_order(numbering: &NumberingChoice) -> LabelOrder
     ensures { result ≡ label_order numbering.now }
 {
     match numbering {
-        NumberingChoice::Tour => LabelOrder::Tour,
+        NumberingChoice::Tour | NumberingChoice::Keep => LabelOrder::Tour,
         NumberingChoice::DepthFirst | NumberingChoice::File(_) => LabelOrder::DepthFirst,
     }
 }

@@ -18,6 +18,8 @@ pub enum Choice {
     Kind,
     /// How the plans of a run are numbered.
     Numbering,
+    /// How two plans are numbered, of which one may keep the labels of the other.
+    Keeping,
     /// What is printed for a kernel's packet path.
     Part,
     /// Of what each fails.
@@ -71,6 +73,7 @@ pub struct Choices<'a> {
     pub formats: &'a [&'a str],
     pub kinds: &'a [&'a str],
     pub numberings: &'a [&'a str],
+    pub keepings: &'a [&'a str],
     pub parts: &'a [&'a str],
     pub eaches: &'a [&'a str],
 }
@@ -136,6 +139,21 @@ const THREADS: Taken = taken!("threads", None, Accepts::Number("T", 1, MAX_THREA
 
 const TOPOLOGY: Taken = taken!("topology", None, Accepts::File("TOPOLOGY"), Need::Must
     => "Topology file, or - for standard input");
+
+// Two topologies of the same nodes, and the plans of them.
+const BOTH_KINDS: Taken =
+    taken!("kind", Some('k'), Accepts::WordOf("KIND", Choice::Kind), Need::Else("shortest")
+    => "Set the kind of both plans");
+
+const KEEPING: Taken =
+    taken!("numbering", Some('n'), Accepts::WordOf("NUMBERING", Choice::Keeping), Need::Else("depth-first")
+    => "Number the nodes of both plans depth-first, or along a tour; or keep the labels of the old plan, a tour's, in the new one");
+
+const OLD: Taken = taken!("topology", None, Accepts::File("OLD"), Need::Must
+    => "Old topology file, or - for standard input (alone: with both topologies, separated by a line %%)");
+
+const NEW: Taken = taken!("new", None, Accepts::File("NEW"), Need::Free
+    => "New topology file, with the same nodes, or - for standard input");
 
 // What is shown of a plan.
 const ORDER: Taken = taken!("order", None, Accepts::Nothing, Need::Free
@@ -229,6 +247,10 @@ static STATS: [Taken; 11] = [
 
 static COMPARE: [Taken; 5] = [FORMAT, ROOTS, THREADS, TOPOLOGY, JSON];
 
+static DIFF: [Taken; 10] = [
+    FORMAT, BOTH_KINDS, LANDMARKS, STRETCH, ROOTS, KEEPING, THREADS, OLD, NEW, JSON,
+];
+
 static DRAW: [Taken; 12] = [
     FORMAT, KIND, LANDMARKS, STRETCH, ROOT, NUMBERING, THREADS, TOPOLOGY, DRAWN_FROM, DRAWN_TO,
     NODE, SVG,
@@ -280,6 +302,7 @@ pub fn taken_by(sub: Sub) -> &'static [Taken]
         Sub::Walk => WALK.as_slice(),
         Sub::Stats => STATS.as_slice(),
         Sub::Compare => COMPARE.as_slice(),
+        Sub::Diff => DIFF.as_slice(),
         Sub::Draw => DRAW.as_slice(),
         Sub::Prefixes => PREFIXES.as_slice(),
         Sub::Ranges => RANGES.as_slice(),

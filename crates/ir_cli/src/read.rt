@@ -10,6 +10,8 @@ use std::alloc::Global;
 pub enum Source {
     Input,
     Topology,
+    /// The new topology.
+    New,
     Script,
     Trace,
     Numbering,

@@ -4,7 +4,7 @@ ghost use Rattle.std.specs.Prelude.{◌≡◌, ◌≢◌, ◌<◌, ◌++◌, ℕ
 ghost use Rattle.clap.specs.Words.{first_of, found_of, rows_of};
 ghost use Rattle.ir_cli.specs.declared.choices.DetourChoice.{DetourChoice};
 ghost use Rattle.ir_cli.specs.declared.kinds.KindChoice.{KindChoice};
-ghost use Rattle.ir_cli.specs.Meaning.{IsDetour, IsFormat, IsKindWord, IsNumber, IsNumberElse, IsNumbering, IsSecond, files_in, is_set, numbering_word, second_kind, second_root, second_word};
+ghost use Rattle.ir_cli.specs.Meaning.{IsDetour, IsFormat, IsKindWord, IsNumber, IsNumberElse, IsNumbering, IsSecond, files_in, is_set, keeps, numbering_word, second_kind, second_root, second_word};
 ghost use Rattle.ir_cli.specs.Meaning.{AreNodes, IsDecimal, IsSpan, nodes_word, span_first, span_last};
 ghost use Rattle.ir_cli.specs.declared.words.Span.{Span};
 ghost use Rattle.ir_cli.specs.CommandLine.{sub_word};
@@ -99,6 +99,7 @@ fn sub_of(name: &str) -> Option<Sub>
         "walk" => Some(Sub::Walk),
         "stats" => Some(Sub::Stats),
         "compare" => Some(Sub::Compare),
+        "diff" => Some(Sub::Diff),
         "draw" => Some(Sub::Draw),
         "prefixes" => Some(Sub::Prefixes),
         "ranges" => Some(Sub::Ranges),
@@ -204,26 +205,38 @@ fn nodes_of(found: &ArgMatches<'_>) -> Option<Span>
     span_in(typed(found, "nodes").unwrap_or(""))
 }
 
-/// The format that is named, else that of the topology's file.
-fn format_of(found: &ArgMatches<'_>) -> Option<Format>
-    ensures { MatchOption result ((format : Format) → IsFormat format (rows_of (found_of found.now)) → ⊥)
-        (λ format. IsFormat format (rows_of (found_of found.now))) }
+/// The format that is named, else that of the file of a topology, by the name of its place.
+fn format_of(found: &ArgMatches<'_>, place: &str) -> Option<Format>
+    ensures { MatchOption result ((format : Format) → IsFormat place.now format (rows_of (found_of found.now)) → ⊥)
+        (λ format. IsFormat place.now format (rows_of (found_of found.now))) }
 {
     match typed(found, "format") {
         Some("adjlist") => Some(Format::AdjList),
         Some("edgelist") => Some(Format::EdgeList),
         Some(_) => None,
-        None => Some(format_of_file(typed(found, "topology").unwrap_or("-"))),
+        None => Some(format_of_file(typed(found, place).unwrap_or("-"))),
     }
 }
 
+/// Whether a subcommand may keep labels.
+fn keeps(sub: Sub) -> bool
+    ensures { result ≡ keeps sub }
+{
+    matches!(sub, Sub::Diff)
+}
+
 /// The numbering that is asked for.
-pub fn numbering_of(alloc: Global, found: &ArgMatches<'_>) -> Result<NumberingChoice, AllocError>
-    ensures { IfOk result (λ numbering. IsNumbering numbering (numbering_word (rows_of (found_of found.now)))) }
+pub fn numbering_of(
+    alloc: Global,
+    found: &ArgMatches<'_>,
+    sub: Sub,
+) -> Result<NumberingChoice, AllocError>
+    ensures { IfOk result (λ numbering. IsNumbering sub numbering (numbering_word (rows_of (found_of found.now)))) }
 {
     match typed(found, "numbering").unwrap_or("depth-first") {
         "depth-first" => Ok(NumberingChoice::DepthFirst),
         "tour" => Ok(NumberingChoice::Tour),
+        "keep" if keeps(sub) => Ok(NumberingChoice::Keep),
         file => Ok(NumberingChoice::File(String::from_str(alloc, file)?)),
     }
 }
@@ -250,6 +263,7 @@ pub fn files_of(alloc: Global, found: &ArgMatches<'_>) -> Result<Vec<String>, Al
 {
     let mut files = Vec::new(alloc);
     push_file(alloc, &mut files, found, "topology")?;
+    push_file(alloc, &mut files, found, "new")?;
     push_file(alloc, &mut files, found, "script")?;
     push_file(alloc, &mut files, found, "trace")?;
     Ok(files)
@@ -260,6 +274,7 @@ pub fn files_of(alloc: Global, found: &ArgMatches<'_>) -> Result<Vec<String>, Al
 pub struct Chosen {
     pub sub: Sub,
     pub format: Format,
+    pub new_format: Format,
     pub kind: KindChoice,
     pub detour: DetourChoice,
     pub capacity: usize,
@@ -278,7 +293,8 @@ pub fn choose(name: &str, found: &ArgMatches<'_>) -> Option<Chosen>
 {
     Some(Chosen {
         sub: sub_of(name)?,
-        format: format_of(found)?,
+        format: format_of(found, "topology")?,
+        new_format: format_of(found, "new")?,
         kind: kind_in(typed(found, "kind").unwrap_or("shortest"))?,
         detour: detour_in(found)?,
         capacity: number_or(found, "capacity", 1, MAX_CAPACITY, 16)?,

@@ -30,6 +30,7 @@ pub enum Sub {
     Walk,
     Stats,
     Compare,
+    Diff,
     Draw,
     Prefixes,
     Ranges,
@@ -53,6 +54,8 @@ pub enum NumberingChoice {
     DepthFirst,
     /// In the order of a tour from the root, or depth first, by which has fewer starts.
     Tour,
+    /// In the order of the plan before, of which the first goes along a tour.
+    Keep,
     /// In the order of a file of this name; the root is the first node of it.
     File(String),
 }
@@ -74,18 +77,22 @@ pub struct Span {
 }
 
 /// What the words ask for. The files are the one word `-`, standard input with all texts, or else
-/// one for each text: the topology, for `sim`, `live` and `check` the script, and for `check` the
-/// trace. Another number of files is refused, and so is `-` beside another file.
+/// one for each text: the topology, for `diff` the new topology, for `sim`, `live` and `check` the
+/// script, and for `check` the trace. Another number of files is refused. So is `-` beside another
+/// file, but for `diff`, where one of two files may be `-`.
 #[derive(Drop)]
 pub struct Words {
     pub sub: Sub,
     pub format: Format,
+    /// That of the new topology.
+    pub new_format: Format,
     pub kind: KindChoice,
     /// How far the ways of landmark plans go round: said only where such a plan may be made.
     pub detour: DetourChoice,
     /// The name of the root; the first node where there is none.
     pub root: Option<String>,
-    /// Depth first for kinds Tree and Landmark. A file's only where a plan is shown, and no root is named.
+    /// Depth first for kinds Tree and Landmark. A file's only where a plan is shown, and no root is named. One that is
+    /// kept for `diff` alone.
     pub numbering: NumberingChoice,
     /// The capacity of each channel and inbox, from 1 to 1,024.
     pub capacity: usize,
@@ -157,7 +164,7 @@ impl Words {
     {
         match &self.numbering {
             NumberingChoice::File(name) => name.as_str(),
-            NumberingChoice::DepthFirst | NumberingChoice::Tour => "-",
+            NumberingChoice::DepthFirst | NumberingChoice::Tour | NumberingChoice::Keep => "-",
         }
     }
 
@@ -273,13 +280,14 @@ fn words_of(alloc: Global, all: Chosen, found: &ArgMatches<'_>) -> Result<Words,
 {
     let root = word_of(alloc, found, "root")?;
     let output = word_of(alloc, found, "output")?;
-    let numbering = numbering_of(alloc, found)?;
+    let numbering = numbering_of(alloc, found, all.sub)?;
     let second = second_of(alloc, found)?;
     let files = files_of(alloc, found)?;
     let (from, to, node) = ends_of(alloc, found)?;
     Ok(Words {
         sub: all.sub,
         format: all.format,
+        new_format: all.new_format,
         kind: all.kind,
         detour: all.detour,
         root,
@@ -372,7 +380,8 @@ fn all_words<'a>(
 /// What the words after the program's name ask for. Words that are refused give the text for
 /// standard error, `--help` and `--version` that for standard output. Besides what the parser
 /// refuses, these are refused:
-/// - a number of files that the subcommand does not take, and `-` beside another file;
+/// - a number of files that the subcommand does not take, and `-` beside another file, but for
+///   `diff`, where `-` twice is;
 /// - a numbering other than depth first of a tree or by landmarks;
 /// - a file's numbering beside a root, on standard input, or of a run;
 /// - a detour where no landmark plan is made;

@@ -9,12 +9,13 @@ use Rattle.ir_json.specs.declared.form.Form.{Form}
 use Rattle.ir_json.specs.declared.form.Items.{Items}
 use Rattle.ir_json.specs.declared.form.Items.TheVariants as items
 
--- what the words after a line's front are: none, names, pairs in a template, or segments
+-- what the words after a line's front are: none, names, pairs in a template, segments, or what a node changes
 pub data Further : Type 0 where
   NoMore : Further
   Names : Further
   Pairs : List ℕ → Further
   Segments : Further
+  Changes : Further
 
 -- the template of a line's front, and what the words are that it has no sign for
 pub record LineForm : Type 0 where
@@ -35,6 +36,7 @@ further_held items.NoItems = NoMore
 further_held items.Names = Names
 further_held (items.Pairs template) = Pairs template.now
 further_held items.Segments = Segments
+further_held items.Changes = Changes
 
 -- the form that a value of the program is
 abbrev pub form_held : Form → LineForm
@@ -50,6 +52,7 @@ is_ascii_further NoMore = true
 is_ascii_further Names = true
 is_ascii_further (Pairs template) = is_ascii template
 is_ascii_further Segments = true
+is_ascii_further Changes = true
 
 -- The value of the program is this form, and its templates are of ASCII.
 pub record IsForm (wanted : LineForm) (form : Form) : Type 0 where
@@ -109,6 +112,7 @@ head_form shapes.Walk words = plain (codes "{$:$,\"from\":$,\"to\":$,\"address\"
 head_form shapes.Stats words = figure_form words
 head_form shapes.Compare words = plain (codes "{$:{\"nodes\":#,\"links\":#},\"plans\":[")
 head_form shapes.Failures words = plain (codes "{$:$,\"kind\":$,\"nodes\":#,\"links\":#,\"intervals\":#,\"greatest-row\":#,\"bits\":#,\"mean-stretch\":{\"walks\":<,\"distances\":>},\"worst-stretch\":{\"walk\":<,\"distance\":>},\"dependencies\":$,\"failures\":[")
+head_form shapes.Diff words = plain (codes "{$:[$,$],\"nodes\":#,\"changed\":#,\"relabelled\":#,\"removed\":#,\"put\":#,\"rows\":[")
 head_form shapes.Prefixes words = plain (codes "{$:$,\"nodes\":#,\"bits\":#,\"entries\":#,\"rows\":[")
 head_form shapes.Ranges words = plain (codes "{$:$,\"nodes\":#,\"count\":#,\"rows\":[")
 head_form shapes.Trace words = plain (codes "{$:#,\"packets\":[")
@@ -125,6 +129,7 @@ row_form shapes.Walk place words = if is_empty (word_at words 2) then plain (cod
 row_form shapes.Stats place words = figure_form words
 row_form shapes.Compare place words = if place == 1 then plain [] else if is_word_at words 0 (codes "tables") then plain (codes "$:{~~~\"bits\":#}") else plain (codes "{\"kind\":$,\"numbering\":$,\"intervals\":#,\"greatest-row\":#,\"bits\":#,\"mean-stretch\":{\"walks\":<,\"distances\":>},\"worst-stretch\":{\"walk\":<,\"distance\":>},\"dependencies\":$}")
 row_form shapes.Failures place words = if is_word_at words 2 (codes "disconnected") then plain (codes "{\"link\":[$,$],\"disconnected\":true~}") else plain (codes "{\"link\":[$,$],\"intervals\":#,\"greatest-row\":#,\"bits\":#,\"mean-stretch\":{\"walks\":<,\"distances\":>},\"worst-stretch\":{\"walk\":<,\"distance\":>},\"dependencies\":$}")
+row_form shapes.Diff place words = listed (codes "{\"node\":$,\"was\":#,\"label\":#,\"remove\":[") Changes
 row_form shapes.Prefixes place words = listed (codes "{\"node\":$,\"label\":#,\"entries\":[") (Pairs (codes "{\"value\":<,\"length\":>,\"next\":?}"))
 row_form shapes.Ranges place words = listed (codes "{\"node\":$,\"label\":#,\"ranges\":[") (Pairs (codes "{\"from\":<,\"to\":>,\"next\":$}"))
 row_form shapes.Trace place words = if has_link words 5 then listed (codes "{\"id\":#,\"epoch\":#,\"from\":$,\"to\":$,\"weight\":#,\"fate\":$,\"link\":[$,$],\"hops\":[") Names else listed (codes "{\"id\":#,\"epoch\":#,\"from\":$,\"to\":$,\"weight\":#,\"fate\":$,\"hops\":[") Names

@@ -25,6 +25,11 @@ const FAILURES_ROW: &str =
 
 const FAILURES_CUT: &str = "{\"link\":[$,$],\"disconnected\":true~}";
 
+const DIFF_HEAD: &str =
+    "{$:[$,$],\"nodes\":#,\"changed\":#,\"relabelled\":#,\"removed\":#,\"put\":#,\"rows\":[";
+
+const DIFF_ROW: &str = "{\"node\":$,\"was\":#,\"label\":#,\"remove\":[";
+
 const PREFIXES_ROW: &str = "{\"node\":$,\"label\":#,\"entries\":[";
 
 const PREFIX: &str = "{\"value\":<,\"length\":>,\"next\":?}";
@@ -61,6 +66,8 @@ pub enum Items {
     /// Each two words in this template.
     Pairs(&'static str),
     Segments,
+    /// Each `- START` or `+ START NEIGHBOUR`.
+    Changes,
 }
 
 /// The template of a line's front, and what those words are that it has no sign for.
@@ -185,6 +192,7 @@ fn head_form(shape: Shape, line: &[u8]) -> Form
         Shape::Stats => figure_form(line),
         Shape::Compare => plain("{$:{\"nodes\":#,\"links\":#},\"plans\":["),
         Shape::Failures => plain(FAILURES_HEAD),
+        Shape::Diff => plain(DIFF_HEAD),
         Shape::Prefixes => plain("{$:$,\"nodes\":#,\"bits\":#,\"entries\":#,\"rows\":["),
         Shape::Ranges => plain("{$:$,\"nodes\":#,\"count\":#,\"rows\":["),
         Shape::Trace | Shape::Restamps => plain("{$:#,\"packets\":["),
@@ -209,6 +217,7 @@ fn row_form(shape: Shape, place: usize, line: &[u8]) -> Form
         Shape::Compare => plain(COMPARED_ROW),
         Shape::Failures if is(word_at(line, 2), "disconnected") => plain(FAILURES_CUT),
         Shape::Failures => plain(FAILURES_ROW),
+        Shape::Diff => listed(DIFF_ROW, Items::Changes),
         Shape::Prefixes => listed(PREFIXES_ROW, Items::Pairs(PREFIX)),
         Shape::Ranges => listed(RANGES_ROW, Items::Pairs("{\"from\":<,\"to\":>,\"next\":$}")),
         Shape::Trace if has_link(line, 5) => listed(TRACE_ROW_WITH_LINK, Items::Names),

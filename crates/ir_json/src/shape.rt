@@ -19,6 +19,8 @@ pub enum Shape {
     Compare,
     /// The figures of a plan, and of those without each link.
     Failures,
+    /// What nodes change between two plans.
+    Diff,
     /// The prefixes of a plan's nodes.
     Prefixes,
     /// The ranges of a plan's nodes.

@@ -6,10 +6,8 @@ ghost use Rattle.ir_model.specs.Interval.{InInterval};
 
 mod halving;
 mod row;
-mod steps;
 
 pub use row::Row;
-pub use steps::Steps;
 
 // A row's word is the label of a start times this number, and its port.
 pub(crate) const WORD_BASE: u32 = 65_536;

@@ -4,9 +4,19 @@ ghost use Rattle.ir_lookup.specs.{Halving.Halves, Words.{start_of, starts_of}};
 
 use crate::WORD_BASE;
 use crate::halving::place_counted;
-use crate::steps::Steps;
-use std::marker::{Brand, Model};
-use std::sync::ledger::{Blank, Ledger};
+use std::marker::Model;
+
+/// How many starts a look-up has compared; `Starts::is_above` alone counts.
+#[derive(Drop)]
+pub struct Compared {
+    count: u32,
+}
+
+impl Model for Compared {
+    ghost Value = { ℕ };
+
+    ghost view = { λ c. c.count };
+}
 
 /// The starts of a node's intervals, ascending, each packed into a word with its port.
 #[derive(Drop)]
@@ -31,22 +41,14 @@ impl Starts {
         self.words.len()
     }
 
-    /// Whether the start at a place is above `d`. It alone shows the look-up a start, and counts and ticks each time.
-    pub fn is_above<L: Ledger>(
-        &self,
-        i: usize,
-        d: u16,
-        count: &mut u32,
-        steps: &mut Steps<L>,
-    ) -> bool
+    /// Whether the start at a place is above `d`. It alone shows the look-up a start, and counts each time.
+    pub fn is_above(&self, i: usize, d: u16, compared: &mut Compared) -> bool
         requires place { i < length self.now }
-        requires room { count.old < 2 ^ 31 }
+        requires room { compared.old < 2 ^ 31 }
         ensures above { IsTrue result ↔ (d < slice_index (labels self.now) i) }
-        ensures counted { count.new ≡ count.old + 1 }
-        ensures ticked { steps.new ≡ steps.old + 1 }
+        ensures counted { compared.new ≡ compared.old + 1 }
     {
-        *count += 1;
-        steps.tick();
+        compared.count += 1;
         d < self.start(i)
     }
 
@@ -148,32 +150,8 @@ impl Row {
         ensures count { (2 ^ result.1 ≤ 2 * length self.now) × (length self.now + 1 < 2 * 2 ^ result.1) }
         ensures halves { Halves (labels self.now) label 0 (length self.now) result.1 }
     {
-        counted_from::<Brand>(self, label, Blank::new(1))
+        let mut compared = Compared { count: 0 };
+        let place = place_counted(&self.starts, label, &mut compared);
+        (self.port(place), compared.count)
     }
-
-    /// What `find_counted` answers, with a tick for each start compared.
-    pub fn find_steps<L: Ledger>(&self, label: u16, steps: &mut Steps<L>) -> (u16, u32)
-        requires { 0 < length self.now }
-        ensures port { (n : ℕ) → label < n → HasPort n self.now label result.0 }
-        ensures count { (2 ^ result.1 ≤ 2 * length self.now) × (length self.now + 1 < 2 * 2 ^ result.1) }
-        ensures halves { Halves (labels self.now) label 0 (length self.now) result.1 }
-        ensures ticks { steps.new ≡ steps.old + result.1 }
-    {
-        let (place, count) = place_counted(&self.starts, label, steps);
-        (self.port(place), count)
-    }
-}
-
-// The same with a ledger of its own.
-fn counted_from<L: Ledger>(row: &Row, d: u16, blank: Blank) -> (u16, u32)
-    requires filled { 0 < length row.now }
-    requires name { blank.name ≡ L.name }
-    requires parts { blank.parts ≡ L.parts }
-    requires some { 0 < blank.parts }
-    ensures port { (n : ℕ) → d < n → HasPort n row.now d result.0 }
-    ensures count { (2 ^ result.1 ≤ 2 * length row.now) × (length row.now + 1 < 2 * 2 ^ result.1) }
-    ensures halves { Halves (labels row.now) d 0 (length row.now) result.1 }
-{
-    let mut steps = Steps::<L>::new(blank);
-    row.find_steps(d, &mut steps)
 }

@@ -32,7 +32,7 @@ fn push_put(text: &mut String, graph: &Graph, lead: Lead) -> TextResult
     push_name(text, graph, lead.node)
 }
 
-/// Writes what is put from a place on, and is below a start; and answers the place behind it.
+/// Writes what is put from a place on, and is below a start; and answers the place after it.
 fn push_below(
     text: &mut String,
     graph: &Graph,

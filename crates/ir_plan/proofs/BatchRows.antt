@@ -1,6 +1,6 @@
 -- The rows of batches of nodes, one batch after the other.
-use Rattle.std.proofs.Common.{◌≡◌, ℕ, zero, suc, Ok, ◌+◌, ◌-◌, ◌*◌, ◌<◌, ◌≤◌, List, [], ◌∷◌, ◌++◌, length, map, flat_map, refl, sym, subst, inl, inr, arith}
-use Rattle.std.specs.Prelude.{IfOk, slice_index, slice_index_or}
+use Rattle.std.proofs.Common.{◌≡◌, ℕ, zero, suc, Ok, Option, Some, None, ◌+◌, ◌-◌, ◌*◌, ◌<◌, ◌≤◌, List, [], ◌∷◌, ◌++◌, length, map, min, flat_map, refl, ap, ◌∙◌, sym, subst, inl, inr, arith}
+use Rattle.std.specs.Prelude.{IfOk, IfSome, slice_index, slice_index_or}
 use Rattle.std.specs.Global.{Vec}
 use Rattle.std.specs.List.{AllZip, range_with_len}
 use Rattle.std.specs.declared.result.Result.{Result}
@@ -12,6 +12,7 @@ use Rattle.ir_model.specs.declared.Kind.{Kind}
 use Rattle.ir_model.specs.declared.Kind.TheVariants.{Tree, Shortest}
 use Rattle.ir_model.specs.Topology.{Topology, node_count}
 use Rattle.ir_model.specs.Row.{Start}
+use Rattle.ir_lanes.specs.Outward.{OutwardLanes, source_at}
 use Rattle.ir_plan.specs.NodeRows.{IsNodeRow, AreNodeRows, AreRowsFrom}
 
 module _ (kind : Kind) (net : Topology) (order parents labels : List ℕ) where
@@ -91,3 +92,15 @@ read_more P k rows more row every each is own =
 -- the shortest table is no tree's
 pub no_tree : {P : Type 0} → Shortest ≡ Tree → P
 no_tree e = absurd (let bad : Shortest ≡ Tree = e in cc bad)
+
+-- where the sources of the ways are a list of sixteen numbers, each is that of its place
+pub each_source : (found : Option OutwardLanes) (held sources : List ℕ) (first nodes count : ℕ) → IfSome found (λ ways. ways.sources ≡ held) → held ≡ sources → nodes ≡ count
+    → ((k : ℕ) → k < 16 → slice_index sources k ≡ min (first + k) (nodes - 1)) → IfSome found (λ ways. (k : ℕ) → k < 16 → source_at ways k ≡ min (first + k) (count - 1))
+each_source (Some ways) held sources first nodes count same is every each =
+    λ k low. ap (λ (xs : List ℕ). slice_index xs k) (same ∙ is) ∙ each k low ∙ ap (λ (n : ℕ). min (first + k) (n - 1)) every
+each_source None held sources first nodes count same is every each = tt
+
+-- the source of a lane that has a node is that node
+pub source_here : (found : Option OutwardLanes) (n first lane : ℕ) → lane < 16 → first + lane < n → IfSome found (λ ways. (k : ℕ) → k < 16 → source_at ways k ≡ min (first + k) (n - 1)) → IfSome found (λ ways. source_at ways lane ≡ first + lane)
+source_here (Some ways) n first lane low inside sources = let here = sources lane low in omega (arith, here, inside)
+source_here None n first lane low inside sources = tt

@@ -42,8 +42,8 @@ pub fn batch_rows(
     lane_rows(alloc, topology, numbering, &ways, first)
 }
 
-// The ways from sixteen nodes, where the lanes are tried and find them.
-fn ways_from(
+/// The ways from sixteen nodes, where the lanes are tried and find them.
+pub fn ways_from(
     alloc: Global,
     topology: &Topology,
     sources: &[u16],
@@ -116,8 +116,8 @@ fn lane_row(
     }
 }
 
-// Sixteen numbers of nodes from one on; past the last node, that one again.
-fn sixteen_from(alloc: Global, nodes: usize, first: usize) -> Result<Vec<u16>, AllocError>
+/// Sixteen numbers of nodes from one on; past the last node, that one again.
+pub fn sixteen_from(alloc: Global, nodes: usize, first: usize) -> Result<Vec<u16>, AllocError>
     requires first { first < nodes }
     requires few { nodes ≤ 16384 }
     ensures sixteen { IfOk result (λ sixteen. length sixteen.items ≡ 16) }

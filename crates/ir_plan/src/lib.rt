@@ -12,6 +12,7 @@ mod error;
 mod landmark;
 mod laws;
 mod making;
+mod near;
 mod nearest;
 mod patience;
 mod plan;

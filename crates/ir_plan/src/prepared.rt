@@ -5,6 +5,7 @@ ghost use Rattle.ir_model.specs.{Topology.node_count, Plan.AreLabels, Walk.IsCon
 ghost use Rattle.ir_plan.specs.Prepared.{ArePrepared};
 
 use crate::crew::Crew;
+use crate::near::bounds_by_crew;
 use crate::ties::Ties;
 use ir_bounds::LandmarkBounds;
 use ir_model::Kind;
@@ -51,7 +52,7 @@ impl Prepared {
                 Ok(Prepared { ties, bounds: None })
             }
             Kind::Landmark(detour) => {
-                let bounds = LandmarkBounds::of(alloc, topology, numbering.node_of(0), detour)?;
+                let bounds = bounds_by_crew(crew, alloc, topology, numbering.node_of(0), detour)?;
                 Ok(Prepared {
                     ties: None,
                     bounds: Some(bounds),

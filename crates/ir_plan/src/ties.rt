@@ -14,8 +14,8 @@ use ir_numbering::Numbering;
 use ir_tables::Topology;
 use std::alloc::{AllocError, Global};
 
-/// The most bytes of marks that are held for a plan: those of 4,096 nodes and 65,536 links.
-const MOST_MARK_BYTES: usize = 67_108_864;
+/// The most bytes of marks that are held for a plan: those of 16,384 nodes and 65,536 links.
+const MOST_MARK_BYTES: usize = 268_435_456;
 
 /// The nodes by label, and for each port of each node the marks of those to which it leads nearer.
 #[derive(Drop)]
@@ -25,8 +25,8 @@ pub struct Ties {
 }
 
 impl Ties {
-    /// The ties of a network, where its nodes are enough to search to sixteen at a time and its marks few enough to be
-    /// held, and where the searches found them.
+    /// The ties of a network, where its nodes are enough to search to sixteen at a time and there is memory for its
+    /// marks, and where the searches found them.
     pub fn of(
         crew: &impl Crew,
         alloc: Global,
@@ -40,7 +40,9 @@ impl Ties {
             return Ok(None);
         }
         let order = Vec::from_slice(alloc, numbering.order())?;
-        let batches = words_of(crew, alloc, topology, order.as_slice())?;
+        let Ok(batches) = words_of(crew, alloc, topology, order.as_slice()) else {
+            return Ok(None);
+        };
         if !are_found(batches.as_slice()) {
             return Ok(None);
         }

@@ -48,7 +48,7 @@ fn tell_step(
     }
 }
 
-/// Opens a world and plays all steps as `ir_core::play` does, and tells them: the text is `steps 1`
+/// Opens a world and plays all steps as `ir_core::play` does, and writes them: the text is `steps 1`
 /// and a line for each event that a step comes to, with the reply of the world, beside the number of
 /// the step's line in the script. Plans are made on the thread that calls. Refused as `World::open`
 /// is, and for want of memory for the text. Conditions: the topology is that of the graph and of the

@@ -23,6 +23,9 @@ returns-in-Stats c = λ choices. has_rules choices c.as_slice-in-Stats.ensures c
 pub returns-in-Compare : goal.returns-in-Compare
 returns-in-Compare c = λ choices. has_rules choices c.as_slice-in-Compare.ensures c.in-Compare.is refl
 
+pub returns-in-Diff : goal.returns-in-Diff
+returns-in-Diff c = λ choices. has_rules choices c.as_slice-in-Diff.ensures c.in-Diff.is refl
+
 pub returns-in-Draw : goal.returns-in-Draw
 returns-in-Draw c = λ choices. has_rules choices c.as_slice-in-Draw.ensures c.in-Draw.is refl
 

@@ -5,6 +5,7 @@ pub returns-in_default-clause-refused : goal.returns-in_default-clause-refused
 returns-in_default-clause-refused c = fails_wider _ _ _ _ c.usage.result (λ _ words means. c.in_default.ensures (record {
   sub = words.sub;
   format = words.format;
+  new_format = words.new_format;
   kind = words.kind;
   detour = words.detour;
   capacity = words.capacity;
@@ -16,6 +17,7 @@ returns-in_default-clause-refused c = fails_wider _ _ _ _ c.usage.result (λ _ w
 }) (record {
   sub = means.sub;
   format = means.format;
+  new_format = means.new_format;
   kind = means.kind;
   detour = means.detour;
   capacity = means.capacity;

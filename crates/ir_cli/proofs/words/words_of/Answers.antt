@@ -15,6 +15,7 @@ returns c = λ name are.
     record {
       sub = are.sub;
       format = are.format;
+      new_format = are.new_format;
       kind = are.kind;
       detour = are.detour;
       root = c.in_ok-root.ensures;

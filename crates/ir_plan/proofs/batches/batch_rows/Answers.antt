@@ -1,15 +1,8 @@
-use Rattle.std.proofs.Common.{◌≡◌, ◌+◌, ◌-◌, ◌*◌, ◌<◌, ◌∙◌, ℕ, List, Option, Some, None, length, min, ap, arith}
-use Rattle.std.specs.Prelude.{IfSome, slice_index}
+use Rattle.std.proofs.Common.{◌*◌, ◌∙◌, ℕ, List, length, ap, arith}
+use Rattle.std.specs.Prelude.{slice_index}
 use Rattle.ir_model.specs.Topology.{node_count}
-use Rattle.ir_lanes.specs.Outward.{OutwardLanes, source_at}
+use Rattle.ir_plan.proofs.BatchRows.{each_source}
 use Rattle.ir_plan.proofs.batches.batch_rows.Goals as goal
-
--- where the sources of the ways are a list of sixteen numbers, each is that of its place
-each_source : (found : Option OutwardLanes) (held sources : List ℕ) (first nodes count : ℕ) → IfSome found (λ ways. ways.sources ≡ held) → held ≡ sources → nodes ≡ count
-    → ((k : ℕ) → k < 16 → slice_index sources k ≡ min (first + k) (nodes - 1)) → IfSome found (λ ways. (k : ℕ) → k < 16 → source_at ways k ≡ min (first + k) (count - 1))
-each_source (Some ways) held sources first nodes count same is every each =
-    λ k low. ap (λ (xs : List ℕ). slice_index xs k) (same ∙ is) ∙ each k low ∙ ap (λ (n : ℕ). min (first + k) (n - 1)) every
-each_source None held sources first nodes count same is every each = tt
 
 pub overflow_mul-first : goal.overflow_mul-first
 overflow_mul-first c =

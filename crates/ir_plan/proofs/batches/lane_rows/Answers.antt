@@ -1,17 +1,11 @@
-use Rattle.std.proofs.Common.{◌≡◌, ◌+◌, ◌-◌, ◌<◌, ℕ, List, Option, Some, None, length, min, ap, arith}
-use Rattle.std.specs.Prelude.{IfSome, slice_index}
+use Rattle.std.proofs.Common.{◌+◌, ◌<◌, ℕ, List, length, ap, arith}
+use Rattle.std.specs.Prelude.{slice_index}
 use Rattle.ir_model.specs.declared.Kind.TheVariants.{Shortest}
 use Rattle.ir_model.specs.Row.{Start}
 use Rattle.ir_model.specs.Topology.{node_count}
-use Rattle.ir_lanes.specs.Outward.{OutwardLanes, source_at}
 use Rattle.ir_plan.specs.NodeRows.{IsNodeRow}
-use Rattle.ir_plan.proofs.BatchRows.{read_more}
+use Rattle.ir_plan.proofs.BatchRows.{read_more, source_here}
 use Rattle.ir_plan.proofs.batches.lane_rows.Goals as goal
-
--- the source of a lane that has a node is that node
-source_here : (found : Option OutwardLanes) (n first lane : ℕ) → lane < 16 → first + lane < n → IfSome found (λ ways. (k : ℕ) → k < 16 → source_at ways k ≡ min (first + k) (n - 1)) → IfSome found (λ ways. source_at ways lane ≡ first + lane)
-source_here (Some ways) n first lane low inside sources = let here = sources lane low in omega (arith, here, inside)
-source_here None n first lane low inside sources = tt
 
 pub loop-lane-init : goal.loop-lane-init
 loop-lane-init c = record {

@@ -1,4 +1,4 @@
-use Rattle.std.proofs.Common.{◌≡◌, ◌*◌, ◌+◌, ◌/◌, ◌%◌, ◌<◌, ◌∙◌, ℕ, ap, arith}
+use Rattle.std.proofs.Common.{◌≡◌, ◌*◌, ◌+◌, ◌/◌, ◌%◌, ◌∙◌, ℕ, ap, arith}
 use Rattle.ir_model.specs.Row.{Start}
 use Rattle.ir_lookup.specs.declared.TheConstants.{WORD_BASE}
 use Rattle.ir_lookup.proofs.row.Row.word.Goals as goal

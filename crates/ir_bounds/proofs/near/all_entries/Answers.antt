@@ -3,8 +3,9 @@ use Rattle.std.specs.Prelude.{slice_index}
 use Rattle.std.proofs.lemmas.List.{get_or_read}
 use Rattle.ir_model.specs.Topology.{node_count}
 use Rattle.ir_model.specs.Landmark.{IsLandmarkBound, bound_by}
-use Rattle.ir_bounds.proofs.Numbers.{distance_small, number_pushed, owner_in}
-use Rattle.ir_bounds.proofs.bounds.bounds_by.Goals as goal
+use Rattle.ir_bounds.proofs.Numbers.{distance_small, owner_in}
+use Rattle.ir_bounds.proofs.Parts.{all_taken}
+use Rattle.ir_bounds.proofs.near.all_entries.Goals as goal
 
 pub bounds-away-index : goal.bounds-away-index
 bounds-away-index c =
@@ -58,5 +59,5 @@ loop-d-preserved c =
     ∙ ap (λ (x : ℕ). bound_by c.args.stretch (slice_index away d) radius (slice_index away x)) node in
     let held : IsLandmarkBound net owners.landmarks.items c.args.stretch u d c.bound.result =
     record { landmark = owner; radius = radius; away = slice_index away d; around = slice_index away owner; of_end = of; direct = c.requires.distances.each d hd; to_landmark = c.requires.distances.each owner l.0; is = is } in
-    let more = number_pushed (IsLandmarkBound net owners.landmarks.items c.args.stretch u) d c.loop-d.row.items c.push.new.self.items c.bound.result c.loop-d.invariant.every c.loop-d.invariant.each c.in_ok-push.ensures.items held in
-    record { every = more.0; each = more.1 }
+    let halves = c.in_ok-put_number.ensures in
+    all_taken net owners.landmarks.items c.args.stretch u d c.bound.result halves.0 halves.1 c.loop-d.entries.items c.put_number.new.halves.items c.loop-d.invariant halves.2 halves.3 held
