@@ -23,7 +23,7 @@ use Rattle.ir_control.specs.Nets.{first_plan}
 use Rattle.ir_control.specs.Answers.{CommandAnswer, epoch_after}
 use Rattle.ir_control.specs.Planned.{Planned, LinkMarks, planned, stamps_in, all_marked, used_in, marks_after, IsAsked, AreAsked, IsPlanIn}
 use Rattle.ir_control.specs.Lives.{AreSoundByPlans}
-use Rattle.ir_control.specs.Avoided.{marks_at, AreDropsForUsedLinks}
+use Rattle.ir_control.specs.Avoided.{marks_at, AreLiveDropsForUsedLinks}
 
 -- an epoch that was installed later than one has another number
 other_epoch : {X : Type 0} (a b : ℕ) (x y : X) (c : Bool) → (a == b) ≡ c → a < b → cond c x y ≡ y
@@ -123,7 +123,7 @@ module _ (net : Net) (commands : List Command) (answers : List CommandAnswer) (s
       ∙ ports_used sound.of_epoch.0 x at sound.sound.plan.topology _ port.0 leads.0 port.1
 
 pub live_for_used : (net : Net) (commands : List Command) (answers : List CommandAnswer) (records : List Record) → length answers ≡ length commands → AreSoundByPlans net commands answers records →
-    AreDropsForUsedLinks net commands answers records
+    AreLiveDropsForUsedLinks net commands answers records
 live_for_used net commands answers records same so k l r at down =
     let sound = subst (λ (x : Record). ∥ IsSoundRecord net.restamps (IsPlanIn so.plans) x ∥₁) (get_or_from_slice_get records k r r at) (so.sound k r (slice_get_within records k r at)) in
     ∥∥₁_elim sound (Bool-set _ _) (λ is. dropped net commands answers same so.asked (present r) l

@@ -22,8 +22,8 @@ marks_at epoch first marks (c ∷ commands) (answer ∷ answers) =
 
 -- A packet is dropped for a link that is down only by a plan that was made while the link was up and heeded: that of
 -- its present epoch.
-abbrev pub AreDropsForUsedLinks : Net → List Command → List CommandAnswer → List Record → Type 0
-AreDropsForUsedLinks net commands answers records =
+abbrev pub AreLiveDropsForUsedLinks : Net → List Command → List CommandAnswer → List Record → Type 0
+AreLiveDropsForUsedLinks net commands answers records =
     let first = all_marked (length net.topology.links) in
     (k l : ℕ) (r : Record) → slice_get records k ≡ Some r → r.fate ≡ Down l
     → slice_index_or (used_in (marks_at (stamp_of r) first first commands answers)) l false ≡ true

@@ -4,7 +4,7 @@ ghost use Rattle.ir_core.specs.{declared.command.Command.Command, Record.Record}
 ghost use Rattle.ir_worker.specs.declared.node.Node.{Node};
 ghost use Rattle.ir_control.specs.{declared.injector.Injector.Injector, declared.net.Net.Net};
 ghost use Rattle.ir_control.specs.{declared.report.Report.Report, Reports.{HaveSameRecords, IsReport}};
-ghost use Rattle.ir_control.specs.{Answers.CommandAnswer, Lives.AreSoundByPlans, Avoided.AreDropsForUsedLinks};
+ghost use Rattle.ir_control.specs.{Answers.CommandAnswer, Lives.AreSoundByPlans, Avoided.AreLiveDropsForUsedLinks};
 
 /// What the nodes and the injector of a net hold determines each record of their report: two reports of them have the
 /// same records, in the same order.
@@ -21,5 +21,5 @@ pub fn report_is_determined()
 pub fn live_drops_for_used_links()
     ensures { (net : Net) (commands : List Command) (answers : List CommandAnswer) (records : List Record)
         → length answers ≡ length commands → AreSoundByPlans net commands answers records
-        → AreDropsForUsedLinks net commands answers records }
+        → AreLiveDropsForUsedLinks net commands answers records }
 {}
