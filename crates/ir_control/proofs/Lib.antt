@@ -27,5 +27,6 @@ pub mod Accepting
 pub mod Lived
 pub mod Agreement
 pub mod Asked
+pub mod Avoids
 pub mod Epochs
 pub mod Causes

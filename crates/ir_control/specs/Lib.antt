@@ -21,6 +21,7 @@ pub mod Planned
 pub mod Desks
 pub mod Carried
 pub mod Lives
+pub mod Avoided
 -- what bodies use
 pub mod Fresh
 pub mod Whole

@@ -23,7 +23,7 @@ mod working;
 pub use controller::Controller;
 pub use injector::{Accepted, Injector};
 pub use ir_core::Command;
-pub use laws::report_is_determined;
+pub use laws::{live_drops_for_used_links, report_is_determined};
 pub use live::{Live, LiveError};
 pub use net::{Net, Parts};
 pub use report::{FinishError, Report};
