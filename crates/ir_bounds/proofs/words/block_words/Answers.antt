@@ -1,9 +1,8 @@
-use Rattle.std.proofs.Common.{◌≡◌, ◌<◌, ◌∙◌, ℕ, List, [], length, length-set, sym, subst, arith}
-use Rattle.std.specs.Prelude.{slice_index, slice_index_or}
+use Rattle.std.proofs.Common.{◌<◌, ◌∙◌, ℕ, List, length, length-set, sym, subst, arith}
+use Rattle.std.specs.Prelude.{slice_index}
 use Rattle.std.proofs.lemmas.List.{get_or_read}
-use Rattle.ir_model.specs.Topology.{node_count, ports_of}
+use Rattle.ir_model.specs.Topology.{ports_of}
 use Rattle.ir_tables.specs.FromNode.{AreFrom}
-use Rattle.ir_bounds.specs.Bounds.{held_lists}
 use Rattle.ir_bounds.specs.Words.{IsWordBy}
 use Rattle.ir_bounds.proofs.Numbers.{lists_length}
 use Rattle.ir_bounds.proofs.Parts.{read_list, put_more}

@@ -1,4 +1,4 @@
-use Rattle.std.proofs.Common.{◌≡◌, ◌↔◌, ◌<◌, ◌≤◌, ◌+◌, ◌∙◌, ℕ, List, length, length-set, ap, sym, subst, arith}
+use Rattle.std.proofs.Common.{◌≡◌, ◌↔◌, ◌<◌, ◌≤◌, ◌∙◌, ℕ, List, ap, sym, subst, arith}
 use Rattle.std.specs.Prelude.{slice_index}
 use Rattle.ir_model.specs.Topology.{node_count}
 use Rattle.ir_model.specs.Landmark.{IsLandmarkBound}

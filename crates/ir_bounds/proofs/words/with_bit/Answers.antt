@@ -1,4 +1,4 @@
-use Rattle.std.proofs.Common.{◌≡◌, ◌<◌, ◌∙◌, ℕ, true, false, sym, arith, w32}
+use Rattle.std.proofs.Common.{◌≡◌, ◌∙◌, true, false, sym, arith, w32}
 use Rattle.std.proofs.lemmas.Nat.Bits.{bit_at_set_same, bit_at_set_other, bit_at_clear_same, bit_at_clear_other}
 use Rattle.ir_bounds.proofs.words.with_bit.Goals as goal
 

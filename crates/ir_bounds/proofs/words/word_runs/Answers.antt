@@ -1,4 +1,3 @@
-use Rattle.std.proofs.Common.{◌≡◌, ◌∙◌, ℕ, List, arith}
 use Rattle.std.proofs.lemmas.Result.{IfOk-weaker}
 use Rattle.ir_bounds.proofs.Held.{landmark_choices}
 use Rattle.ir_bounds.proofs.LedWords.{words_some, words_longest}

@@ -1,4 +1,4 @@
-use Rattle.std.proofs.Common.{◌≡◌, ◌<◌, ◌≤◌, ◌∙◌, ℕ, List, length, drop, arith}
+use Rattle.std.proofs.Common.{◌≤◌, ℕ, List, length, drop, arith}
 use Rattle.std.proofs.lemmas.List.{take_at}
 use Rattle.ir_model.specs.Topology.{ports_of}
 use Rattle.ir_bounds.proofs.LedWords.{ports_begun, ports_all}

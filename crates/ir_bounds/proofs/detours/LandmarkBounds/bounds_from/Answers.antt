@@ -1,4 +1,4 @@
-use Rattle.std.proofs.Common.{◌≡◌, ◌<◌, ℕ, List, length, drop, ap, arith}
+use Rattle.std.proofs.Common.{◌≡◌, ℕ, List, length, drop, ap, arith}
 use Rattle.std.proofs.lemmas.List.{take_at}
 use Rattle.ir_bounds.specs.Bounds.{AreBoundsFrom}
 use Rattle.ir_bounds.proofs.Parts.{put_are_bounds}

@@ -1,4 +1,4 @@
-use Rattle.std.proofs.Common.{◌≡◌, ◌/◌, ◌%◌, ◌∙◌, ℕ, List, sym, subst, arith}
+use Rattle.std.proofs.Common.{◌/◌, ◌∙◌, sym, subst, arith}
 use Rattle.ir_bounds.specs.Bounds.{held_lists}
 use Rattle.ir_bounds.specs.Near.{AreNearAt}
 use Rattle.ir_bounds.proofs.Numbers.{lists_length}
