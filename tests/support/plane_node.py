@@ -134,7 +134,7 @@ def of_tables() -> None:
         with open(wrong, "w", encoding="ascii") as file:
             file.write(text)
         refused(what, sentence, f"install 3 {wrong}", table(row, 3))
-    refused("a root that is one short", "is not forwarded as", "install 3", edited(3, Row(1000, 0, tuple((2 * i, i % 2) for i in range(40))), 17, 0xFFFFFFFF))
+    refused("a root that is one short", "word 18 of line 1 is not what", "install 3", edited(3, Row(1000, 0, tuple((2 * i, i % 2) for i in range(40))), 17, 0xFFFFFFFF))
     taken("epoch 1 as before", "check 1", good)
 
 
