@@ -41,8 +41,8 @@ struct tried {
     uint32_t starts, labels, tables; /* 0 starts: a full table; 0 tables: one, of EPOCH */
     struct bpf_object *object;
     int look, link, tc, pass;
-    uint64_t bytes, more, lost; /* of its map, and of one more table */
-    double *times, change;
+    uint64_t bytes, lost;
+    double *times, change, more; /* bytes of one more table */
 };
 
 static const char *folder;
@@ -268,7 +268,7 @@ static void open_one(struct tried *it, int is_way) {
     it->more = it->bytes;
     if (is_of_lines(it)) { /* what each of so many more takes */
         int many = map_of_tables(it, EPOCH, 1 + MORE);
-        it->more = (bytes_of(many) - it->bytes) / MORE;
+        it->more = (double)(bytes_of(many) - it->bytes) / MORE;
         close(many);
     }
     if (it->form != NONE && it->form < ROUTES)
@@ -487,8 +487,8 @@ int main(int count, char **words) {
         else if (i == 0)
             printf("| %s | | | %.0f in all | | | | |\n", names[it->form], median);
         else
-            printf("| %s | %s | %u | %.0f | %lu | %lu | %.2f | %.0f |\n", names[it->form], of, it->labels, median - base, it->bytes, it->more,
-                   it->more / 4.0 / (it->starts ? it->starts : it->labels / 2), it->change * 1e6);
+            printf("| %s | %s | %u | %.0f | %lu | %.0f | %.2f | %.0f |\n", names[it->form], of, it->labels, median - base, it->bytes, it->more,
+                   it->more / 4 / (it->starts ? it->starts : it->labels / 2), it->change * 1e6);
     }
     return 0;
 }
