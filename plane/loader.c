@@ -439,7 +439,8 @@ static struct tables all_tables(const char *folder) {
             refuse_by(errno, "the tables");
     if (!is_store(&store))
         refuse("the plane at %s is of another version: take it down, and bring it up again", folder);
-    hold_all(&store, found.of);
+    if (!hold_all(&store, found.of))
+        refuse("out of memory");
     free(store.line);
     return found;
 }

@@ -138,15 +138,17 @@ static struct store stored(const struct held *tables, uint32_t count) {
 /* Whether lines have the form of this plane. */
 static inline int is_store(const struct store *store) { return store->lines && (store->line[0].word[2] >> 8 & 0xFF) == STORE_FORM; }
 
-/* The tables that stand in a store, as they were given, by their slots. Less of them where there is no memory. */
-static inline void hold_all(const struct store *store, struct held *of) {
+/* Reads the tables that stand in a store, as they were given, by their slots; 0 where there is no memory. */
+static inline int hold_all(const struct store *store, struct held *of) {
     struct line *line = store->line;
     uint32_t count = 0, number = 0, depth = line[0].word[2] & 0xFF, *row = calloc(STARTS + 1, sizeof *row);
     uint64_t slots = (uint64_t)line[0].word[1] << 32 | line[0].word[0];
     const uint32_t *at = depth ? line[1].word : line[0].word + ROOT_WORDS, *end = depth ? line[line[0].word[2] >> 16].word : at + ROOT_WORDS;
+    if (!row)
+        return 0;
     while (at < end && *at >> SLOT_SHIFT == 0)
         at++;
-    for (uint32_t slot = 0; row && slot < EPOCHS; slot++) {
+    for (uint32_t slot = 0; slot < EPOCHS; slot++) {
         if (!(slots >> slot & 1))
             continue;
         uint32_t own = *word_of_heads(line, number++), labels = *word_of_heads(line, number++), port = labels & ANY_PORT;
@@ -155,7 +157,7 @@ static inline void hold_all(const struct store *store, struct held *of) {
             uint32_t lines = (head[HEAD_LABELS] + 4 * WORDS - 1) / (4 * WORDS);
             of[slot] = (struct held){1 + lines, calloc(1 + lines, sizeof *line)};
             if (!of[slot].line)
-                break;
+                return 0;
             head[HEAD_DEPTH] = BYTES;
             memcpy(of[slot].line, head, sizeof head);
             memset(of[slot].line[0].word + HEAD_WORDS, 0xFF, ROOT_WORDS * sizeof *head);
@@ -165,8 +167,11 @@ static inline void hold_all(const struct store *store, struct held *of) {
         for (count = 0, row[0] = port; at < end && *at >> SLOT_SHIFT == slot + 1; at++)
             row[++count] = (*at >> PORT_BITS & (LABELS - 1)) << 16 | (*at & ANY_PORT);
         of[slot] = table_of_row(head, (struct leaves){row, port == ANY_PORT ? 0 : count + 1});
+        if (!of[slot].line)
+            return 0;
     }
     free(row);
+    return 1;
 }
 
 #endif

@@ -63,7 +63,7 @@ static void together(uint32_t count, uint32_t labels, uint32_t starts, uint32_t 
         tables[i] = of_bytes && i % of_bytes == 0 ? bytes(from + i, 1 + drawn(labels), ports + i * labels)
                                                   : tree(from + i, labels, depth > 1 ? starts : drawn(starts + 1), ports + i * labels);
     struct store store = stored(tables, count);
-    hold_all(&store, back);
+    int is_held = hold_all(&store, back);
     for (uint32_t i = 0; i < count; i++) {
         const struct held *it = &back[(from + i) % EPOCHS];
         right += is_led(&store, &tables[i], ports + i * labels) && it->lines == tables[i].lines
@@ -71,7 +71,7 @@ static void together(uint32_t count, uint32_t labels, uint32_t starts, uint32_t 
         free(tables[i].line);
         free(it->line);
     }
-    int is_right = right == count && is_store(&store) && (!depth || (store.line[0].word[2] & 0xFF) == depth);
+    int is_right = is_held && right == count && is_store(&store) && (!depth || (store.line[0].word[2] & 0xFF) == depth);
     passed += is_right, failed += !is_right;
     if (!is_right)
         printf("%u tables of %u labels, %u starts at most: %u are right, the depth is %u\n", count, labels, starts, right, store.line[0].word[2] & 0xFF);
