@@ -3,8 +3,8 @@
 # The subcommands below a command, which is named by its words; the program has none.
 _bentzolu_subcommands() {
     case ${1-} in
-        '') echo 'plan walk stats compare draw prefixes ranges xdp sim live check help' ;;
-        help) echo 'plan walk stats compare draw prefixes ranges xdp sim live check' ;;
+        '') echo 'plan walk stats compare diff draw prefixes ranges xdp sim live check help' ;;
+        help) echo 'plan walk stats compare diff draw prefixes ranges xdp sim live check' ;;
     esac
 }
 
@@ -15,6 +15,8 @@ _bentzolu_places() {
         walk,1) echo '<file>' ;;
         stats,1) echo '<file>' ;;
         compare,1) echo '<file>' ;;
+        diff,1) echo '<file>' ;;
+        diff,2) echo '<file>' ;;
         draw,1) echo '<file>' ;;
         prefixes,1) echo '<file>' ;;
         ranges,1) echo '<file>' ;;
@@ -38,6 +40,7 @@ _bentzolu_options() {
         walk) echo '-f --format -k --kind --landmarks --stretch -r --root -n --numbering --threads --from --to --json -o --output --quiet --explain --no-explain --help' ;;
         stats) echo '-f --format -k --kind --landmarks --stretch -r --root -n --numbering --threads --with --each --json -o --output --quiet --explain --no-explain --help' ;;
         compare) echo '-f --format -r --root --threads --json -o --output --quiet --explain --no-explain --help' ;;
+        diff) echo '-f --format -k --kind --landmarks --stretch -r --root -n --numbering --threads --json -o --output --quiet --explain --no-explain --help' ;;
         draw) echo '-f --format -k --kind --landmarks --stretch -r --root -n --numbering --threads --from --to --node --svg -o --output --quiet --explain --no-explain --help' ;;
         prefixes) echo '-f --format -k --kind --landmarks --stretch -r --root -n --numbering --threads --disjoint --json -o --output --quiet --explain --no-explain --help' ;;
         ranges) echo '-f --format -k --kind --landmarks --stretch -r --root -n --numbering --threads --json -o --output --quiet --explain --no-explain --help' ;;
@@ -84,6 +87,14 @@ _bentzolu_values() {
         compare,-r | compare,--root) echo '<node>' ;;
         compare,--threads) echo '<any>' ;;
         compare,-o | compare,--output) echo '<file>' ;;
+        diff,-f | diff,--format) echo 'adjlist edgelist' ;;
+        diff,-k | diff,--kind) echo 'tree shortest compact landmark' ;;
+        diff,--landmarks) echo '<any>' ;;
+        diff,--stretch) echo '<any>' ;;
+        diff,-r | diff,--root) echo '<node>' ;;
+        diff,-n | diff,--numbering) echo 'depth-first tour keep' ;;
+        diff,--threads) echo '<any>' ;;
+        diff,-o | diff,--output) echo '<file>' ;;
         draw,-f | draw,--format) echo 'adjlist edgelist' ;;
         draw,-k | draw,--kind) echo 'tree shortest compact landmark' ;;
         draw,--landmarks) echo '<any>' ;;

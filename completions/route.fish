@@ -4,9 +4,9 @@
 function __bentzolu_subcommands
     switch "$argv[1]"
         case ''
-            string split ' ' 'plan walk stats compare draw prefixes ranges xdp sim live check help'
+            string split ' ' 'plan walk stats compare diff draw prefixes ranges xdp sim live check help'
         case 'help'
-            string split ' ' 'plan walk stats compare draw prefixes ranges xdp sim live check'
+            string split ' ' 'plan walk stats compare diff draw prefixes ranges xdp sim live check'
     end
 end
 
@@ -38,6 +38,7 @@ complete -c route -n "__bentzolu_is ''" -a plan -d 'Print the label and the inte
 complete -c route -n "__bentzolu_is ''" -a walk -d 'Print the path from one node to another, with the interval that each node uses'
 complete -c route -n "__bentzolu_is ''" -a stats -d 'Print the figures of a plan'
 complete -c route -n "__bentzolu_is ''" -a compare -d 'Print the figures of plans of all kinds and numberings, and of full tables'
+complete -c route -n "__bentzolu_is ''" -a diff -d 'Print what each node changes between the plans of two networks of the same nodes'
 complete -c route -n "__bentzolu_is ''" -a draw -d 'Print a drawing of a plan, for Graphviz or as SVG'
 complete -c route -n "__bentzolu_is ''" -a prefixes -d 'Print forwarding tables of the fewest label prefixes, for longest prefix match'
 complete -c route -n "__bentzolu_is ''" -a ranges -d 'Print forwarding tables of the fewest label ranges, for tables that match ranges'
@@ -106,6 +107,20 @@ complete -c route -n "__bentzolu_is 'compare'" -l quiet -d 'Print nothing on sta
 complete -c route -n "__bentzolu_is 'compare'" -l explain -d 'Explain each fault in a sentence on standard error'
 complete -c route -n "__bentzolu_is 'compare'" -l no-explain -d 'Do not explain faults, not even on a terminal'
 complete -c route -n "__bentzolu_is 'compare'" -l help -d 'Print help'
+complete -c route -n "__bentzolu_is 'diff'" -F
+complete -c route -n "__bentzolu_is 'diff'" -s f -l format -x -a 'adjlist edgelist' -d 'Set the format of the topology'
+complete -c route -n "__bentzolu_is 'diff'" -s k -l kind -x -a 'tree shortest compact landmark' -d 'Set the kind of both plans'
+complete -c route -n "__bentzolu_is 'diff'" -l landmarks -x -d 'Use at most K landmarks in landmark plans'
+complete -c route -n "__bentzolu_is 'diff'" -l stretch -x -d 'Limit the paths of landmark plans to P percent of the distance'
+complete -c route -n "__bentzolu_is 'diff'" -s r -l root -x -a '(__bentzolu_nodes)' -d 'Set the root of the plans'
+complete -c route -n "__bentzolu_is 'diff'" -s n -l numbering -x -a 'depth-first tour keep' -d 'Number the nodes of both plans depth-first, or along a tour'
+complete -c route -n "__bentzolu_is 'diff'" -l threads -x -d 'Use at most T threads to make rows'
+complete -c route -n "__bentzolu_is 'diff'" -l json -d 'Print the output as JSON'
+complete -c route -n "__bentzolu_is 'diff'" -s o -l output -r -F -d 'Write the output to FILE, whole or not at all'
+complete -c route -n "__bentzolu_is 'diff'" -l quiet -d 'Print nothing on standard error'
+complete -c route -n "__bentzolu_is 'diff'" -l explain -d 'Explain each fault in a sentence on standard error'
+complete -c route -n "__bentzolu_is 'diff'" -l no-explain -d 'Do not explain faults, not even on a terminal'
+complete -c route -n "__bentzolu_is 'diff'" -l help -d 'Print help'
 complete -c route -n "__bentzolu_is 'draw'" -F
 complete -c route -n "__bentzolu_is 'draw'" -s f -l format -x -a 'adjlist edgelist' -d 'Set the format of the topology'
 complete -c route -n "__bentzolu_is 'draw'" -s k -l kind -x -a 'tree shortest compact landmark' -d 'Set the kind of the first plan'
@@ -221,6 +236,7 @@ complete -c route -n "__bentzolu_is 'help'" -a plan -d 'Print the label and the 
 complete -c route -n "__bentzolu_is 'help'" -a walk -d 'Print the path from one node to another, with the interval that each node uses'
 complete -c route -n "__bentzolu_is 'help'" -a stats -d 'Print the figures of a plan'
 complete -c route -n "__bentzolu_is 'help'" -a compare -d 'Print the figures of plans of all kinds and numberings, and of full tables'
+complete -c route -n "__bentzolu_is 'help'" -a diff -d 'Print what each node changes between the plans of two networks of the same nodes'
 complete -c route -n "__bentzolu_is 'help'" -a draw -d 'Print a drawing of a plan, for Graphviz or as SVG'
 complete -c route -n "__bentzolu_is 'help'" -a prefixes -d 'Print forwarding tables of the fewest label prefixes, for longest prefix match'
 complete -c route -n "__bentzolu_is 'help'" -a ranges -d 'Print forwarding tables of the fewest label ranges, for tables that match ranges'

@@ -17,7 +17,7 @@ from .typed import Shown, Texts
 VARIABLE = "BENTZOLU_LIBRARY"
 BESIDE = pathlib.Path(__file__).resolve().parent / "libbentzolu.so"
 OF_SYSTEM = "libbentzolu.so.1"
-SUBCOMMANDS = ("plan", "walk", "stats", "compare", "draw", "prefixes", "ranges", "xdp", "sim", "check")
+SUBCOMMANDS = ("plan", "walk", "stats", "compare", "diff", "draw", "prefixes", "ranges", "xdp", "sim", "check")
 OWN_TEXT = ("-h", "--help", "-V", "--version")  # words whose text the library gives as faults
 FIRST_ROOM, FAULT_ROOM = 1 << 20, 1 << 14
 
@@ -109,7 +109,9 @@ def orders(words: Sequence[str]) -> list[str]:
 
 
 def order_of(words: Sequence[str]) -> str | None:
-    """The file of an order of nodes that words name; None where they name none."""
+    """The file of an order of nodes that words name; None where they name none, as those of `diff`, which takes no file."""
+    if words[:1] == ["diff"]:
+        return None
     return next((it for it in orders(words) if it not in ("depth-first", "tour")), None)
 
 

@@ -22,7 +22,7 @@ use Rattle.ir_cli.specs.declared.words.Words.{Words}
 use Rattle.ir_cli.specs.declared.words.Second.{Second}
 use Rattle.ir_cli.specs.declared.words.Span.{Span}
 use Rattle.ir_cli.specs.declared.words.Sub.{Sub}
-use Rattle.ir_cli.specs.declared.words.Sub.TheVariants.{Plan as Planning, Walk, Stats, Compare, Draw, Prefixes, Ranges as Ranging, Xdp, Sim, Live, Check}
+use Rattle.ir_cli.specs.declared.words.Sub.TheVariants.{Plan as Planning, Walk, Stats, Compare, Diff, Draw, Prefixes, Ranges as Ranging, Xdp, Sim, Live, Check}
 use Rattle.ir_model.specs.declared.Detour.{Detour}
 use Rattle.ir_model.specs.declared.Kind.{Kind}
 use Rattle.ir_cli.specs.Kinds.{detour_of, kind_of}
@@ -175,6 +175,7 @@ lines_shown words u = if words.binary then Bytes u words.epoch else Lines u word
 -- the subcommands that show a plan
 abbrev pub ShowsPlan : Sub → Type 0
 ShowsPlan Compare = ⊥
+ShowsPlan Diff = ⊥
 ShowsPlan Sim = ⊥
 ShowsPlan Live = ⊥
 ShowsPlan Check = ⊥
@@ -191,6 +192,7 @@ AnswersAsked Prefixes words g answers = answers (Tables words.disjoint)
 AnswersAsked Ranging words g answers = answers Ranges
 AnswersAsked Xdp words g answers = AnswersRoot g (drawn_name words) (λ u. answers (lines_shown words u))
 AnswersAsked Compare words g answers = λ answer. ⊥
+AnswersAsked Diff words g answers = λ answer. ⊥
 AnswersAsked Sim words g answers = λ answer. ⊥
 AnswersAsked Live words g answers = λ answer. ⊥
 AnswersAsked Check words g answers = λ answer. ⊥
@@ -276,6 +278,7 @@ IsShow Prefixes words g show = show ≡ Tables words.disjoint
 IsShow Ranging words g show = show ≡ Ranges
 IsShow Xdp words g show = (u : ℕ) × IsNode g (drawn_name words) u × (show ≡ lines_shown words u)
 IsShow Compare words g show = ⊥
+IsShow Diff words g show = ⊥
 IsShow Sim words g show = ⊥
 IsShow Live words g show = ⊥
 IsShow Check words g show = ⊥

@@ -25,6 +25,7 @@ fn shape_of(sub: Sub, words: &Words) -> Option<Shape>
         Sub::Stats if words.each => Some(Shape::Failures),
         Sub::Stats => Some(Shape::Stats),
         Sub::Compare => Some(Shape::Compare),
+        Sub::Diff => Some(Shape::Diff),
         Sub::Draw | Sub::Xdp => None,
         Sub::Prefixes => Some(Shape::Prefixes),
         Sub::Ranges => Some(Shape::Ranges),

@@ -205,7 +205,7 @@ fn look_texts<'a>(words: &Words, texts: &'a [Vec<u8>]) -> (&'a [u8], Option<&'a 
 }
 
 /// By what the words ask the nodes to be labelled: from the root that they name, or by an order where there is one.
-fn read_labels(
+pub fn read_labels(
     alloc: Global,
     words: &Words,
     graph: &Graph,
@@ -343,7 +343,7 @@ fn read_show(sub: Sub, words: &Words, graph: &Graph) -> Result<Show, AnswerStop>
     ensures stop { IfErr result (λ s. StopsAs s (RefusesShow sub words.now graph.now)) }
 {
     match sub {
-        Sub::Compare | Sub::Sim | Sub::Live | Sub::Check => unreachable!(),
+        Sub::Compare | Sub::Diff | Sub::Sim | Sub::Live | Sub::Check => unreachable!(),
         Sub::Plan => read_rows(words, graph),
         Sub::Stats => read_figures(words, graph),
         Sub::Prefixes => Ok(Show::Tables(words.disjoint)),
