@@ -97,7 +97,7 @@ _bentzolu_values() {
         stats,-n | stats,--numbering) echo 'depth-first tour <file>' ;;
         stats,--threads) echo '<any>' ;;
         stats,--with) echo '<any>' ;;
-        stats,--each) echo links ;;
+        stats,--each) echo links nodes ;;
         stats,-o | stats,--output) echo '<file>' ;;
         stats,--color) echo 'auto always never' ;;
         compare,-f | compare,--format) echo 'adjlist edgelist' ;;

@@ -104,7 +104,7 @@ complete -c route -n "__bentzolu_is 'stats'" -s r -l root -x -a '(__bentzolu_nod
 complete -c route -n "__bentzolu_is 'stats'" -s n -l numbering -r -F -a 'depth-first tour' -d 'Number the nodes depth-first, along a tour'
 complete -c route -n "__bentzolu_is 'stats'" -l threads -x -d 'Use at most T threads to make rows'
 complete -c route -n "__bentzolu_is 'stats'" -l with -x -d 'Also report whether links can wait for one another in a ring if packets of this plan and of a second one travel'
-complete -c route -n "__bentzolu_is 'stats'" -l each -x -a 'links' -d 'Print the figures on one line, and one line with those of the plan without each link'
+complete -c route -n "__bentzolu_is 'stats'" -l each -x -a 'links nodes' -d 'Print the figures on one line, and one line with those of the plan without each link or node'
 complete -c route -n "__bentzolu_is 'stats'" -l json -d 'Print the output as JSON'
 complete -c route -n "__bentzolu_is 'stats'" -s o -l output -r -F -d 'Write the output to FILE, whole or not at all'
 complete -c route -n "__bentzolu_is 'stats'" -l quiet -d 'Print nothing on standard error'

@@ -210,7 +210,7 @@ module _ (look : Sub) (words : Words) (texts : List (List ℕ)) (topology : List
 
 -- what shows a plan is an answer
 pub shown_plan : (g : Adjacency) (kind : Kind) (labels : Labelling) (show : Show) (plan : Plan) → IsPlanBy (topology_of_graph g) kind labels plan
-    → (answer : Answer) → AnswerShows show (names g) plan answer → AnswersText g kind labels (Says show (names g)) answer
+    → (answer : Answer) → AnswerShows show g plan answer → AnswersText g kind labels (Says show g) answer
 shown_plan g kind labels show plan built (Ran text refusals) shows = (record { plan = plan; built = built; said = shows.0 }, shows.1)
 shown_plan g kind labels show plan built (Found text) shows = absurd shows
 shown_plan g kind labels show plan built (Refused line) shows = absurd shows
@@ -218,7 +218,7 @@ shown_plan g kind labels show plan built NoThread shows = absurd shows
 
 -- what gives the walk of a plan that is not built is a text of that plan
 pub walk_says : (g : Adjacency) (kind : Kind) (labels : Labelling) (a b : ℕ) (text : List ℕ) → IsWalkOfPlan (names g) (topology_of_graph g) kind labels a b text
-    → IsTextOfPlan g kind labels (Says (Between a b) (names g)) text
+    → IsTextOfPlan g kind labels (Says (Between a b) g) text
 walk_says g kind labels a b text is = record { plan = is.plan; built = is.built; said = is.walks }
 
 -- what reports the refusal of a plan is an answer

@@ -26,7 +26,7 @@ plan_shape words = if words.order_alone then shapes.Order else if is_some words.
 abbrev pub shape_of : Sub → Words → Option Shape
 shape_of Plan words = Some (plan_shape words)
 shape_of Walk words = Some shapes.Walk
-shape_of Stats words = Some (if words.each then shapes.Failures else shapes.Stats)
+shape_of Stats words = Some (if words.each then (if words.by_node then shapes.Losses else shapes.Failures) else shapes.Stats)
 shape_of Compare words = Some shapes.Compare
 shape_of Diff words = Some shapes.Diff
 shape_of Draw words = None

@@ -21,6 +21,7 @@ fn shape_of(sub: Sub, words: &Words) -> Option<Shape>
         Sub::Plan if words.nodes.is_some() => Some(Shape::Nodes),
         Sub::Plan => Some(Shape::Plan),
         Sub::Walk => Some(Shape::Walk),
+        Sub::Stats if words.each && words.by_node => Some(Shape::Losses),
         Sub::Stats if words.each => Some(Shape::Failures),
         Sub::Stats => Some(Shape::Stats),
         Sub::Compare => Some(Shape::Compare),

@@ -11,6 +11,7 @@ mod asking;
 mod checking;
 mod comparing;
 mod diffing;
+mod failing;
 mod forming;
 mod laws;
 mod look;
