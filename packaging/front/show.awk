@@ -149,7 +149,6 @@ function print_further() {
     print "\n" bold "Further commands, of the Python package:" plain
     print_wrapped("  generate    Print a network of a family: ring, grid, torus, fattree, random and others")
     print_wrapped("  convert     Convert a network in another format, as GML or GraphML, to an edge list")
-    print_wrapped("  diff        Print what each node changes between the plans of two networks")
     print_wrapped("  sweep       Make the plans for all failures of a kind")
     print_wrapped("  lab         Change a plan under real packets in network namespaces of Linux, as root")
     print_wrapped("  agent, controller, fleet, xdp")

@@ -59,6 +59,16 @@ pub fn is_set(found: &ArgMatches<'_>, name: &str) -> bool
     }
 }
 
+/// Whether nodes are to fail in place of links.
+pub fn is_by_node(found: &ArgMatches<'_>) -> bool
+    ensures { result ≡ is_by_node (rows_of (found_of found.now)) }
+{
+    match typed(found, "each") {
+        Some(word) => word == "nodes",
+        None => false,
+    }
+}
+
 /// The number of an option, if it is one in this range, and none where the option is not given.
 fn number_in(found: &ArgMatches<'_>, name: &str, least: usize, most: usize) -> Option<Option<usize>>
     ensures { MatchOption result ((n : Option ℕ) → IsNumber name.now (rows_of (found_of found.now)) least most n → ⊥)
