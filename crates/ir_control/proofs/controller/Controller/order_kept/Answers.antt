@@ -5,13 +5,16 @@ use Rattle.ir_plan.specs.Building.{MayLabel}
 use Rattle.ir_core.specs.Drafts.{items_of, order_kept, labelling_by}
 use Rattle.ir_core.proofs.Labelled.{may_keep}
 use Rattle.ir_epochs.specs.declared.registry.Stamp.{Stamp}
-use Rattle.ir_epochs.specs.Stamps.{knows}
+use Rattle.ir_epochs.specs.declared.registry.Registry.{Registry}
+use Rattle.ir_epochs.specs.Stamps.{IsOf, knows}
 use Rattle.ir_epochs.proofs.Overs.{over_nodes}
 use Rattle.ir_control.specs.Changes.{order_of}
 use Rattle.ir_control.proofs.controller.Controller.order_kept.Goals as goal
 
 pub plan-current-requires : goal.plan-current-requires
-plan-current-requires g c = c.stamp-stamp.ensures.registry ∙ c.args.self.now.registry_is ∙ c.args.self.now.of_registry
+plan-current-requires g c =
+    let own = c.args.self.now in
+    subst (λ (r : Registry). IsOf r c.stamp-stamp.result) (sym c.deref.ensures) (c.stamp-stamp.ensures.registry ∙ own.registry_is ∙ own.of_registry)
 
 pub returns-in-Ok-clause-kept : goal.returns-in-Ok-clause-kept
 returns-in-Ok-clause-kept g c =
