@@ -4,7 +4,7 @@ ghost use Rattle.std.specs.Prelude.{◌≡◌, ◌≢◌, ◌<◌, ◌++◌, ℕ
 ghost use Rattle.clap.specs.Words.{first_of, found_of, rows_of};
 ghost use Rattle.ir_cli.specs.declared.choices.DetourChoice.{DetourChoice};
 ghost use Rattle.ir_cli.specs.declared.kinds.KindChoice.{KindChoice};
-ghost use Rattle.ir_cli.specs.Meaning.{IsDetour, IsFormat, IsKindWord, IsNumber, IsNumberElse, IsNumbering, IsSecond, files_in, is_set, keeps, numbering_word, second_kind, second_root, second_word};
+ghost use Rattle.ir_cli.specs.Meaning.{is_by_node, IsDetour, IsFormat, IsKindWord, IsNumber, IsNumberElse, IsNumbering, IsSecond, files_in, is_set, keeps, numbering_word, second_kind, second_root, second_word};
 ghost use Rattle.ir_cli.specs.Meaning.{AreNodes, IsDecimal, IsSpan, nodes_word, span_first, span_last};
 ghost use Rattle.ir_cli.specs.declared.words.Span.{Span};
 ghost use Rattle.ir_cli.specs.CommandLine.{sub_word};
