@@ -18,7 +18,7 @@ use Rattle.ir_model.specs.Plan.{Plan}
 use Rattle.ir_plan.specs.Building.{Labelling}
 use Rattle.ir_answer.specs.declared.asking.AnswerStop.{AnswerStop}
 use Rattle.ir_answer.specs.Stops.{StopsAs}
-use Rattle.ir_answer.specs.Diffs.{is_kept, AnswersPlan, IsRefusedAs}
+use Rattle.ir_answer.specs.Diffs.{is_kept, AnswersPlan, RefusesPlanAs}
 use Rattle.ir_answer.proofs.Answering.{stops_more}
 
 -- labels that are kept are of a kind that takes another order than depth first
@@ -43,7 +43,7 @@ of_new format ls answers g answer sound graph holds =
 
 -- what refuses a plan is an answer to its labels
 pub without_plan : (line_of : OpenError → List ℕ) (g : Adjacency) (kind : Kind) (labels : Labelling) (answers : Plan → Answer → Type 0) (e : OpenError)
-    → (e ≢ openings.NoMemory → IsRefusedAs g labels e) → (stop : AnswerStop) → StopsAs stop (λ line. (e ≢ openings.NoMemory) × (line ≡ line_of e))
+    → (e ≢ openings.NoMemory → RefusesPlanAs g labels e) → (stop : AnswerStop) → StopsAs stop (λ line. (e ≢ openings.NoMemory) × (line ≡ line_of e))
     → StopsAs stop (λ line. AnswersPlan line_of g kind labels answers (Refused line))
 without_plan line_of g kind labels answers e refused stop stops =
     stops_more (λ (line : List ℕ). (e ≢ openings.NoMemory) × (line ≡ line_of e)) (λ (line : List ℕ). AnswersPlan line_of g kind labels answers (Refused line))

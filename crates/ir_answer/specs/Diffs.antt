@@ -51,14 +51,14 @@ abbrev pub IsOtherLine : (old new : List Name) → List ℕ → Type 0
 IsOtherLine old new line = (other : OtherNode) × IsOtherNode old new other × (line ≡ other_line other)
 
 -- why there is no plan of the graph by these labels, other than for memory
-abbrev pub IsRefusedAs : Adjacency → Labelling → OpenError → Type 0
-IsRefusedAs g labels e = (error : PlanError) × (error ≢ NoMemory) × RefusesPlan (topology_of_graph g) labels error × (e ≡ open_error_of error)
+abbrev pub RefusesPlanAs : Adjacency → Labelling → OpenError → Type 0
+RefusesPlanAs g labels e = (error : PlanError) × (error ≢ NoMemory) × RefusesPlan (topology_of_graph g) labels error × (e ≡ open_error_of error)
 
 -- The answer to a graph, a kind and labels: their plan's refusal, by its line, or else an answer to a plan of theirs.
 abbrev pub AnswersPlan : (OpenError → List ℕ) → Adjacency → Kind → Labelling → (Plan → Answer → Type 0) → Answer → Type 0
 AnswersPlan line_of g kind labels answers answer =
     ((plan : Plan) × IsPlanBy (topology_of_graph g) kind labels plan × answers plan answer)
-    ⊎ ((e : OpenError) × IsRefusedAs g labels e × (answer ≡ Refused (line_of e)))
+    ⊎ ((e : OpenError) × RefusesPlanAs g labels e × (answer ≡ Refused (line_of e)))
 
 -- the answer to two plans: the text of what each node changes
 abbrev pub AnswersChange : Adjacency → Plan → Adjacency → Plan → Answer → Type 0

@@ -9,7 +9,7 @@ ghost use Rattle.ir_plan.specs.Building.{IsPlanBy, MayLabel, labelling_of};
 ghost use Rattle.ir_cli.specs.Lines.{new_line, new_opening_line};
 ghost use Rattle.ir_cli.specs.Openings.{topology_fault, topology_graph, kind_asked, AnswersTopology};
 ghost use Rattle.ir_cli.specs.Words.{takes_list};
-ghost use Rattle.ir_answer.specs.Diffs.{keeps_labels, order_kept, IsRefusedAs, IsOtherLine, AnswersChange, AnswersOther, AnswersPlans, AnswersDiff};
+ghost use Rattle.ir_answer.specs.Diffs.{keeps_labels, order_kept, RefusesPlanAs, IsOtherLine, AnswersChange, AnswersOther, AnswersPlans, AnswersDiff};
 ghost use Rattle.ir_answer.specs.Stops.{StopsAs, Gives};
 
 use crate::asking::{AnswerStop, opening_stop, read_graph};
@@ -64,7 +64,7 @@ fn plan_over(
 ) -> Result<Plan, OpenError>
     requires { MayLabel (topology_of_graph graph.now) kind (labelling_of labels) }
     ensures plan { IfOk result (IsPlanBy (topology_of_graph graph.now) kind (labelling_of labels)) }
-    ensures refused { IfErr result (λ e. e ≢ openings.NoMemory → IsRefusedAs graph.now (labelling_of labels) e) }
+    ensures refused { IfErr result (λ e. e ≢ openings.NoMemory → RefusesPlanAs graph.now (labelling_of labels) e) }
 {
     let Ok(topology) = Topology::of(alloc, graph) else {
         return Err(OpenError::NoMemory);
