@@ -2,7 +2,7 @@
 """Times of sweeps: a failure's cost, processes, and dask beside processes by turns. It needs NumPy, and dask for the last.
 
     sweeps.py cost [TURNS]       seconds of a processor a failure: of the program, and of Python with its figures
-    sweeps.py each [TURNS]       milliseconds a failure of `stats --each links` beside a plan and beside `stats`, without the start
+    sweeps.py each [TURNS]       milliseconds a failure of `stats --each links`, and of nodes, beside a plan and `stats`, without the start
     sweeps.py processes [TURNS]  all single failures of random 128/256 by 1, 2 and 4 processes, by turns
     sweeps.py dask [TURNS]       tasks of 0.2 s by four processes and by four workers of dask, by turns
     sweeps.py memory             the greatest resident set of a process that makes rows of 1,584 nodes
@@ -86,12 +86,14 @@ def each(turns: Any) -> None:
         for kind in ("shortest", "compact", "tree"):
             rows = []
             for _ in range(turns):
-                plan, stats, all_of_them = ([*words, "--kind", kind, "--format", "edgelist", "--threads", "1", "--quiet", "-"]
-                                            for words in (("plan",), ("stats",), ("stats", "--each", "links")))
+                plan, stats, by_link, by_node = ([*words, "--kind", kind, "--format", "edgelist", "--threads", "1", "--quiet", "-"]
+                                                 for words in (("plan",), ("stats",), ("stats", "--each", "links"), ("stats", "--each", "nodes")))
                 start = took("--version")
-                rows.append([took(*plan, text=text) - start, took(*stats, text=text) - start, (took(*all_of_them, text=text) - start) / (len(links) + 1)])
-            plan, stats, failure = (statistics.median(column) for column in zip(*rows))
-            print(f"{name}, {kind}: plan {plan:.2f} ms, stats {stats:.2f} ms, a failure {failure:.2f} ms, {failure / plan:.1f} plans", flush=True)
+                rows.append([took(*plan, text=text) - start, took(*stats, text=text) - start, (took(*by_link, text=text) - start) / (len(links) + 1),
+                             (took(*by_node, text=text) - start) / (len({u for link in links for u in link}) + 1)])
+            plan, stats, link, node = (statistics.median(column) for column in zip(*rows))
+            print(f"{name}, {kind}: plan {plan:.2f} ms, stats {stats:.2f} ms, a link {link:.2f} ms, {link / plan:.1f} plans, a node {node:.2f} ms, "
+                  f"{node / plan:.1f} plans", flush=True)
 
 
 def processes(turns: Any) -> None:

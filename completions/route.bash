@@ -3,7 +3,7 @@
 # The subcommands below a command, which is named by its words; the program has none.
 _bentzolu_subcommands() {
     case ${1-} in
-        '') echo 'plan walk stats compare draw prefixes ranges xdp sim live check help' ;;
+        '') echo 'plan walk stats compare draw prefixes ranges xdp sim live check help generate convert diff sweep lab agent controller fleet completions' ;;
         help) echo 'plan walk stats compare draw prefixes ranges xdp sim live check' ;;
     esac
 }
@@ -27,30 +27,47 @@ _bentzolu_places() {
         check,1) echo '<file>' ;;
         check,2) echo '<file>' ;;
         check,3) echo '<file>' ;;
+        generate,1) echo topology ;;
+        convert,1) echo '<file>' ;;
+        convert,2) echo '<file>' ;;
+        diff,1) echo '<file>' ;;
+        diff,2) echo '<file>' ;;
+        sweep,1) echo '<file>' ;;
+        sweep,2) echo '<file>' ;;
+        lab,1) echo '<file>' ;;
+        lab,2) echo '<file>' ;;
+        agent,1) echo '<file>' ;;
+        agent,2) echo '<file>' ;;
+        controller,1) echo '<file>' ;;
+        controller,2) echo '<file>' ;;
+        fleet,1) echo '<file>' ;;
+        fleet,2) echo '<file>' ;;
+        completions,1) echo 'bash zsh fish' ;;
     esac
 }
 
 # The options of a command.
 _bentzolu_options() {
     case ${1-} in
-        '') echo '--help --version' ;;
-        plan) echo '-f --format -k --kind --landmarks --stretch -r --root -n --numbering --threads --order --nodes --json -o --output --quiet --explain --no-explain --help' ;;
-        walk) echo '-f --format -k --kind --landmarks --stretch -r --root -n --numbering --threads --from --to --json -o --output --quiet --explain --no-explain --help' ;;
-        stats) echo '-f --format -k --kind --landmarks --stretch -r --root -n --numbering --threads --with --each --json -o --output --quiet --explain --no-explain --help' ;;
-        compare) echo '-f --format -r --root --threads --json -o --output --quiet --explain --no-explain --help' ;;
-        draw) echo '-f --format -k --kind --landmarks --stretch -r --root -n --numbering --threads --from --to --node --svg -o --output --quiet --explain --no-explain --help' ;;
-        prefixes) echo '-f --format -k --kind --landmarks --stretch -r --root -n --numbering --threads --disjoint --json -o --output --quiet --explain --no-explain --help' ;;
-        ranges) echo '-f --format -k --kind --landmarks --stretch -r --root -n --numbering --threads --json -o --output --quiet --explain --no-explain --help' ;;
-        xdp) echo '-f --format -k --kind --landmarks --stretch -r --root -n --numbering --threads --node --binary -o --output --quiet --explain --no-explain --help' ;;
-        sim) echo '-f --format -k --kind --landmarks --stretch -r --root -n --numbering --capacity --packets --restamps --steps --json -o --output --quiet --explain --no-explain --help' ;;
-        live) echo '-f --format -k --kind --landmarks --stretch -r --root -n --numbering --capacity --packets --restamps --json -o --output --quiet --explain --no-explain --help' ;;
-        check) echo '-f --format -k --kind --landmarks --stretch -r --root -n --numbering --capacity --packets --whole --json -o --output --quiet --explain --no-explain --help' ;;
+        '') echo '--help --version --color --pretty' ;;
+        plan) echo '-f --format -k --kind --landmarks --stretch -r --root -n --numbering --threads --order --nodes --json -o --output --quiet --explain --no-explain --help --color --pretty' ;;
+        walk) echo '-f --format -k --kind --landmarks --stretch -r --root -n --numbering --threads --from --to --json -o --output --quiet --explain --no-explain --help --color --pretty' ;;
+        stats) echo '-f --format -k --kind --landmarks --stretch -r --root -n --numbering --threads --with --each --json -o --output --quiet --explain --no-explain --help --color --pretty' ;;
+        compare) echo '-f --format -r --root --threads --json -o --output --quiet --explain --no-explain --help --color --pretty' ;;
+        draw) echo '-f --format -k --kind --landmarks --stretch -r --root -n --numbering --threads --from --to --node --svg -o --output --quiet --explain --no-explain --help --color --pretty' ;;
+        prefixes) echo '-f --format -k --kind --landmarks --stretch -r --root -n --numbering --threads --disjoint --json -o --output --quiet --explain --no-explain --help --color --pretty' ;;
+        ranges) echo '-f --format -k --kind --landmarks --stretch -r --root -n --numbering --threads --json -o --output --quiet --explain --no-explain --help --color --pretty' ;;
+        xdp) echo '-f --format -k --kind --landmarks --stretch -r --root -n --numbering --threads --node --binary -o --output --quiet --explain --no-explain --help --color --pretty' ;;
+        sim) echo '-f --format -k --kind --landmarks --stretch -r --root -n --numbering --capacity --packets --restamps --steps --json -o --output --quiet --explain --no-explain --help --color --pretty' ;;
+        live) echo '-f --format -k --kind --landmarks --stretch -r --root -n --numbering --capacity --packets --restamps --json -o --output --quiet --explain --no-explain --help --color --pretty' ;;
+        check) echo '-f --format -k --kind --landmarks --stretch -r --root -n --numbering --capacity --packets --whole --json -o --output --quiet --explain --no-explain --help --color --pretty' ;;
     esac
 }
 
 # What an option of a command takes: words, `<file>` and `<node>`; `<any>` is a word of which nothing is known.
 _bentzolu_values() {
     case ${2-},$1 in
+        ,--color) echo 'auto always never' ;;
         plan,-f | plan,--format) echo 'adjlist edgelist' ;;
         plan,-k | plan,--kind) echo 'tree shortest compact landmark' ;;
         plan,--landmarks) echo '<any>' ;;
@@ -60,6 +77,7 @@ _bentzolu_values() {
         plan,--threads) echo '<any>' ;;
         plan,--nodes) echo '<any>' ;;
         plan,-o | plan,--output) echo '<file>' ;;
+        plan,--color) echo 'auto always never' ;;
         walk,-f | walk,--format) echo 'adjlist edgelist' ;;
         walk,-k | walk,--kind) echo 'tree shortest compact landmark' ;;
         walk,--landmarks) echo '<any>' ;;
@@ -70,6 +88,7 @@ _bentzolu_values() {
         walk,--from) echo '<node>' ;;
         walk,--to) echo '<node>' ;;
         walk,-o | walk,--output) echo '<file>' ;;
+        walk,--color) echo 'auto always never' ;;
         stats,-f | stats,--format) echo 'adjlist edgelist' ;;
         stats,-k | stats,--kind) echo 'tree shortest compact landmark' ;;
         stats,--landmarks) echo '<any>' ;;
@@ -78,12 +97,14 @@ _bentzolu_values() {
         stats,-n | stats,--numbering) echo 'depth-first tour <file>' ;;
         stats,--threads) echo '<any>' ;;
         stats,--with) echo '<any>' ;;
-        stats,--each) echo links ;;
+        stats,--each) echo links nodes ;;
         stats,-o | stats,--output) echo '<file>' ;;
+        stats,--color) echo 'auto always never' ;;
         compare,-f | compare,--format) echo 'adjlist edgelist' ;;
         compare,-r | compare,--root) echo '<node>' ;;
         compare,--threads) echo '<any>' ;;
         compare,-o | compare,--output) echo '<file>' ;;
+        compare,--color) echo 'auto always never' ;;
         draw,-f | draw,--format) echo 'adjlist edgelist' ;;
         draw,-k | draw,--kind) echo 'tree shortest compact landmark' ;;
         draw,--landmarks) echo '<any>' ;;
@@ -95,6 +116,7 @@ _bentzolu_values() {
         draw,--to) echo '<node>' ;;
         draw,--node) echo '<node>' ;;
         draw,-o | draw,--output) echo '<file>' ;;
+        draw,--color) echo 'auto always never' ;;
         prefixes,-f | prefixes,--format) echo 'adjlist edgelist' ;;
         prefixes,-k | prefixes,--kind) echo 'tree shortest compact landmark' ;;
         prefixes,--landmarks) echo '<any>' ;;
@@ -103,6 +125,7 @@ _bentzolu_values() {
         prefixes,-n | prefixes,--numbering) echo 'depth-first tour <file>' ;;
         prefixes,--threads) echo '<any>' ;;
         prefixes,-o | prefixes,--output) echo '<file>' ;;
+        prefixes,--color) echo 'auto always never' ;;
         ranges,-f | ranges,--format) echo 'adjlist edgelist' ;;
         ranges,-k | ranges,--kind) echo 'tree shortest compact landmark' ;;
         ranges,--landmarks) echo '<any>' ;;
@@ -111,6 +134,7 @@ _bentzolu_values() {
         ranges,-n | ranges,--numbering) echo 'depth-first tour <file>' ;;
         ranges,--threads) echo '<any>' ;;
         ranges,-o | ranges,--output) echo '<file>' ;;
+        ranges,--color) echo 'auto always never' ;;
         xdp,-f | xdp,--format) echo 'adjlist edgelist' ;;
         xdp,-k | xdp,--kind) echo 'tree shortest compact landmark' ;;
         xdp,--landmarks) echo '<any>' ;;
@@ -120,6 +144,7 @@ _bentzolu_values() {
         xdp,--threads) echo '<any>' ;;
         xdp,--node) echo '<node>' ;;
         xdp,-o | xdp,--output) echo '<file>' ;;
+        xdp,--color) echo 'auto always never' ;;
         sim,-f | sim,--format) echo 'adjlist edgelist' ;;
         sim,-k | sim,--kind) echo 'tree shortest compact landmark' ;;
         sim,--landmarks) echo '<any>' ;;
@@ -130,6 +155,7 @@ _bentzolu_values() {
         sim,--packets) echo '<any>' ;;
         sim,--restamps) echo '0 1 2 3' ;;
         sim,-o | sim,--output) echo '<file>' ;;
+        sim,--color) echo 'auto always never' ;;
         live,-f | live,--format) echo 'adjlist edgelist' ;;
         live,-k | live,--kind) echo 'tree shortest compact landmark' ;;
         live,--landmarks) echo '<any>' ;;
@@ -140,6 +166,7 @@ _bentzolu_values() {
         live,--packets) echo '<any>' ;;
         live,--restamps) echo '0 1 2 3' ;;
         live,-o | live,--output) echo '<file>' ;;
+        live,--color) echo 'auto always never' ;;
         check,-f | check,--format) echo 'adjlist edgelist' ;;
         check,-k | check,--kind) echo 'tree shortest compact landmark' ;;
         check,--landmarks) echo '<any>' ;;
@@ -149,6 +176,7 @@ _bentzolu_values() {
         check,--capacity) echo '<any>' ;;
         check,--packets) echo '<any>' ;;
         check,-o | check,--output) echo '<file>' ;;
+        check,--color) echo 'auto always never' ;;
     esac
 }
 

@@ -4,7 +4,7 @@
 function __bentzolu_subcommands
     switch "$argv[1]"
         case ''
-            string split ' ' 'plan walk stats compare draw prefixes ranges xdp sim live check help'
+            string split ' ' 'plan walk stats compare draw prefixes ranges xdp sim live check help generate convert diff sweep lab agent controller fleet completions'
         case 'help'
             string split ' ' 'plan walk stats compare draw prefixes ranges xdp sim live check'
     end
@@ -46,8 +46,19 @@ complete -c route -n "__bentzolu_is ''" -a sim -d 'Run a script step by step, an
 complete -c route -n "__bentzolu_is ''" -a live -d 'Run a script with a thread for each node, and print what became of its packets'
 complete -c route -n "__bentzolu_is ''" -a check -d 'Check the rows of a trace against the paths of the script\'s plans'
 complete -c route -n "__bentzolu_is ''" -a help -d 'Print this message or the help of the given subcommand(s)'
+complete -c route -n "__bentzolu_is ''" -a generate -d 'Print a network of a family'
+complete -c route -n "__bentzolu_is ''" -a convert -d 'Convert a network in another format, as GML or GraphML, to an edge list'
+complete -c route -n "__bentzolu_is ''" -a diff -d 'Print what each node changes between the plans of two networks'
+complete -c route -n "__bentzolu_is ''" -a sweep -d 'Make the plans for all failures of a kind'
+complete -c route -n "__bentzolu_is ''" -a lab -d 'Change a plan under real packets in network namespaces of Linux, as root'
+complete -c route -n "__bentzolu_is ''" -a agent -d 'Forward packets on many machines'
+complete -c route -n "__bentzolu_is ''" -a controller -d 'Forward packets on many machines'
+complete -c route -n "__bentzolu_is ''" -a fleet -d 'Forward packets on many machines'
+complete -c route -n "__bentzolu_is ''" -a completions -d 'Print the completions for bash, zsh or fish'
 complete -c route -n "__bentzolu_is ''" -l help -d 'Print help'
 complete -c route -n "__bentzolu_is ''" -l version -d 'Print version'
+complete -c route -n "__bentzolu_is ''" -l color -x -a 'auto always never' -d 'Use colours'
+complete -c route -n "__bentzolu_is ''" -l pretty -d 'Print the form for people, with aligned columns, where no terminal is, too'
 complete -c route -n "__bentzolu_is 'plan'" -F
 complete -c route -n "__bentzolu_is 'plan'" -s f -l format -x -a 'adjlist edgelist' -d 'Set the format of the topology'
 complete -c route -n "__bentzolu_is 'plan'" -s k -l kind -x -a 'tree shortest compact landmark' -d 'Set the kind of the first plan'
@@ -64,6 +75,8 @@ complete -c route -n "__bentzolu_is 'plan'" -l quiet -d 'Print nothing on standa
 complete -c route -n "__bentzolu_is 'plan'" -l explain -d 'Explain each fault in a sentence on standard error'
 complete -c route -n "__bentzolu_is 'plan'" -l no-explain -d 'Do not explain faults, not even on a terminal'
 complete -c route -n "__bentzolu_is 'plan'" -l help -d 'Print help'
+complete -c route -n "__bentzolu_is 'plan'" -l color -x -a 'auto always never' -d 'Use colours'
+complete -c route -n "__bentzolu_is 'plan'" -l pretty -d 'Print the form for people, with aligned columns, where no terminal is, too'
 complete -c route -n "__bentzolu_is 'walk'" -F
 complete -c route -n "__bentzolu_is 'walk'" -s f -l format -x -a 'adjlist edgelist' -d 'Set the format of the topology'
 complete -c route -n "__bentzolu_is 'walk'" -s k -l kind -x -a 'tree shortest compact landmark' -d 'Set the kind of the first plan'
@@ -80,6 +93,8 @@ complete -c route -n "__bentzolu_is 'walk'" -l quiet -d 'Print nothing on standa
 complete -c route -n "__bentzolu_is 'walk'" -l explain -d 'Explain each fault in a sentence on standard error'
 complete -c route -n "__bentzolu_is 'walk'" -l no-explain -d 'Do not explain faults, not even on a terminal'
 complete -c route -n "__bentzolu_is 'walk'" -l help -d 'Print help'
+complete -c route -n "__bentzolu_is 'walk'" -l color -x -a 'auto always never' -d 'Use colours'
+complete -c route -n "__bentzolu_is 'walk'" -l pretty -d 'Print the form for people, with aligned columns, where no terminal is, too'
 complete -c route -n "__bentzolu_is 'stats'" -F
 complete -c route -n "__bentzolu_is 'stats'" -s f -l format -x -a 'adjlist edgelist' -d 'Set the format of the topology'
 complete -c route -n "__bentzolu_is 'stats'" -s k -l kind -x -a 'tree shortest compact landmark' -d 'Set the kind of the first plan'
@@ -89,13 +104,15 @@ complete -c route -n "__bentzolu_is 'stats'" -s r -l root -x -a '(__bentzolu_nod
 complete -c route -n "__bentzolu_is 'stats'" -s n -l numbering -r -F -a 'depth-first tour' -d 'Number the nodes depth-first, along a tour'
 complete -c route -n "__bentzolu_is 'stats'" -l threads -x -d 'Use at most T threads to make rows'
 complete -c route -n "__bentzolu_is 'stats'" -l with -x -d 'Also report whether links can wait for one another in a ring if packets of this plan and of a second one travel'
-complete -c route -n "__bentzolu_is 'stats'" -l each -x -a 'links' -d 'Print the figures on one line, and one line with those of the plan without each link'
+complete -c route -n "__bentzolu_is 'stats'" -l each -x -a 'links nodes' -d 'Print the figures on one line, and one line with those of the plan without each link or node'
 complete -c route -n "__bentzolu_is 'stats'" -l json -d 'Print the output as JSON'
 complete -c route -n "__bentzolu_is 'stats'" -s o -l output -r -F -d 'Write the output to FILE, whole or not at all'
 complete -c route -n "__bentzolu_is 'stats'" -l quiet -d 'Print nothing on standard error'
 complete -c route -n "__bentzolu_is 'stats'" -l explain -d 'Explain each fault in a sentence on standard error'
 complete -c route -n "__bentzolu_is 'stats'" -l no-explain -d 'Do not explain faults, not even on a terminal'
 complete -c route -n "__bentzolu_is 'stats'" -l help -d 'Print help'
+complete -c route -n "__bentzolu_is 'stats'" -l color -x -a 'auto always never' -d 'Use colours'
+complete -c route -n "__bentzolu_is 'stats'" -l pretty -d 'Print the form for people, with aligned columns, where no terminal is, too'
 complete -c route -n "__bentzolu_is 'compare'" -F
 complete -c route -n "__bentzolu_is 'compare'" -s f -l format -x -a 'adjlist edgelist' -d 'Set the format of the topology'
 complete -c route -n "__bentzolu_is 'compare'" -s r -l root -x -a '(__bentzolu_nodes)' -d 'Set the root of the plans'
@@ -106,6 +123,8 @@ complete -c route -n "__bentzolu_is 'compare'" -l quiet -d 'Print nothing on sta
 complete -c route -n "__bentzolu_is 'compare'" -l explain -d 'Explain each fault in a sentence on standard error'
 complete -c route -n "__bentzolu_is 'compare'" -l no-explain -d 'Do not explain faults, not even on a terminal'
 complete -c route -n "__bentzolu_is 'compare'" -l help -d 'Print help'
+complete -c route -n "__bentzolu_is 'compare'" -l color -x -a 'auto always never' -d 'Use colours'
+complete -c route -n "__bentzolu_is 'compare'" -l pretty -d 'Print the form for people, with aligned columns, where no terminal is, too'
 complete -c route -n "__bentzolu_is 'draw'" -F
 complete -c route -n "__bentzolu_is 'draw'" -s f -l format -x -a 'adjlist edgelist' -d 'Set the format of the topology'
 complete -c route -n "__bentzolu_is 'draw'" -s k -l kind -x -a 'tree shortest compact landmark' -d 'Set the kind of the first plan'
@@ -123,6 +142,8 @@ complete -c route -n "__bentzolu_is 'draw'" -l quiet -d 'Print nothing on standa
 complete -c route -n "__bentzolu_is 'draw'" -l explain -d 'Explain each fault in a sentence on standard error'
 complete -c route -n "__bentzolu_is 'draw'" -l no-explain -d 'Do not explain faults, not even on a terminal'
 complete -c route -n "__bentzolu_is 'draw'" -l help -d 'Print help'
+complete -c route -n "__bentzolu_is 'draw'" -l color -x -a 'auto always never' -d 'Use colours'
+complete -c route -n "__bentzolu_is 'draw'" -l pretty -d 'Print the form for people, with aligned columns, where no terminal is, too'
 complete -c route -n "__bentzolu_is 'prefixes'" -F
 complete -c route -n "__bentzolu_is 'prefixes'" -s f -l format -x -a 'adjlist edgelist' -d 'Set the format of the topology'
 complete -c route -n "__bentzolu_is 'prefixes'" -s k -l kind -x -a 'tree shortest compact landmark' -d 'Set the kind of the first plan'
@@ -138,6 +159,8 @@ complete -c route -n "__bentzolu_is 'prefixes'" -l quiet -d 'Print nothing on st
 complete -c route -n "__bentzolu_is 'prefixes'" -l explain -d 'Explain each fault in a sentence on standard error'
 complete -c route -n "__bentzolu_is 'prefixes'" -l no-explain -d 'Do not explain faults, not even on a terminal'
 complete -c route -n "__bentzolu_is 'prefixes'" -l help -d 'Print help'
+complete -c route -n "__bentzolu_is 'prefixes'" -l color -x -a 'auto always never' -d 'Use colours'
+complete -c route -n "__bentzolu_is 'prefixes'" -l pretty -d 'Print the form for people, with aligned columns, where no terminal is, too'
 complete -c route -n "__bentzolu_is 'ranges'" -F
 complete -c route -n "__bentzolu_is 'ranges'" -s f -l format -x -a 'adjlist edgelist' -d 'Set the format of the topology'
 complete -c route -n "__bentzolu_is 'ranges'" -s k -l kind -x -a 'tree shortest compact landmark' -d 'Set the kind of the first plan'
@@ -152,6 +175,8 @@ complete -c route -n "__bentzolu_is 'ranges'" -l quiet -d 'Print nothing on stan
 complete -c route -n "__bentzolu_is 'ranges'" -l explain -d 'Explain each fault in a sentence on standard error'
 complete -c route -n "__bentzolu_is 'ranges'" -l no-explain -d 'Do not explain faults, not even on a terminal'
 complete -c route -n "__bentzolu_is 'ranges'" -l help -d 'Print help'
+complete -c route -n "__bentzolu_is 'ranges'" -l color -x -a 'auto always never' -d 'Use colours'
+complete -c route -n "__bentzolu_is 'ranges'" -l pretty -d 'Print the form for people, with aligned columns, where no terminal is, too'
 complete -c route -n "__bentzolu_is 'xdp'" -F
 complete -c route -n "__bentzolu_is 'xdp'" -a 'table'
 complete -c route -n "__bentzolu_is 'xdp'" -s f -l format -x -a 'adjlist edgelist' -d 'Set the format of the topology'
@@ -168,6 +193,8 @@ complete -c route -n "__bentzolu_is 'xdp'" -l quiet -d 'Print nothing on standar
 complete -c route -n "__bentzolu_is 'xdp'" -l explain -d 'Explain each fault in a sentence on standard error'
 complete -c route -n "__bentzolu_is 'xdp'" -l no-explain -d 'Do not explain faults, not even on a terminal'
 complete -c route -n "__bentzolu_is 'xdp'" -l help -d 'Print help'
+complete -c route -n "__bentzolu_is 'xdp'" -l color -x -a 'auto always never' -d 'Use colours'
+complete -c route -n "__bentzolu_is 'xdp'" -l pretty -d 'Print the form for people, with aligned columns, where no terminal is, too'
 complete -c route -n "__bentzolu_is 'sim'" -F
 complete -c route -n "__bentzolu_is 'sim'" -s f -l format -x -a 'adjlist edgelist' -d 'Set the format of the topology'
 complete -c route -n "__bentzolu_is 'sim'" -s k -l kind -x -a 'tree shortest compact landmark' -d 'Set the kind of the first plan'
@@ -185,6 +212,8 @@ complete -c route -n "__bentzolu_is 'sim'" -l quiet -d 'Print nothing on standar
 complete -c route -n "__bentzolu_is 'sim'" -l explain -d 'Explain each fault in a sentence on standard error'
 complete -c route -n "__bentzolu_is 'sim'" -l no-explain -d 'Do not explain faults, not even on a terminal'
 complete -c route -n "__bentzolu_is 'sim'" -l help -d 'Print help'
+complete -c route -n "__bentzolu_is 'sim'" -l color -x -a 'auto always never' -d 'Use colours'
+complete -c route -n "__bentzolu_is 'sim'" -l pretty -d 'Print the form for people, with aligned columns, where no terminal is, too'
 complete -c route -n "__bentzolu_is 'live'" -F
 complete -c route -n "__bentzolu_is 'live'" -s f -l format -x -a 'adjlist edgelist' -d 'Set the format of the topology'
 complete -c route -n "__bentzolu_is 'live'" -s k -l kind -x -a 'tree shortest compact landmark' -d 'Set the kind of the first plan'
@@ -201,6 +230,8 @@ complete -c route -n "__bentzolu_is 'live'" -l quiet -d 'Print nothing on standa
 complete -c route -n "__bentzolu_is 'live'" -l explain -d 'Explain each fault in a sentence on standard error'
 complete -c route -n "__bentzolu_is 'live'" -l no-explain -d 'Do not explain faults, not even on a terminal'
 complete -c route -n "__bentzolu_is 'live'" -l help -d 'Print help'
+complete -c route -n "__bentzolu_is 'live'" -l color -x -a 'auto always never' -d 'Use colours'
+complete -c route -n "__bentzolu_is 'live'" -l pretty -d 'Print the form for people, with aligned columns, where no terminal is, too'
 complete -c route -n "__bentzolu_is 'check'" -F
 complete -c route -n "__bentzolu_is 'check'" -s f -l format -x -a 'adjlist edgelist' -d 'Set the format of the topology'
 complete -c route -n "__bentzolu_is 'check'" -s k -l kind -x -a 'tree shortest compact landmark' -d 'Set the kind of the first plan'
@@ -217,6 +248,8 @@ complete -c route -n "__bentzolu_is 'check'" -l quiet -d 'Print nothing on stand
 complete -c route -n "__bentzolu_is 'check'" -l explain -d 'Explain each fault in a sentence on standard error'
 complete -c route -n "__bentzolu_is 'check'" -l no-explain -d 'Do not explain faults, not even on a terminal'
 complete -c route -n "__bentzolu_is 'check'" -l help -d 'Print help'
+complete -c route -n "__bentzolu_is 'check'" -l color -x -a 'auto always never' -d 'Use colours'
+complete -c route -n "__bentzolu_is 'check'" -l pretty -d 'Print the form for people, with aligned columns, where no terminal is, too'
 complete -c route -n "__bentzolu_is 'help'" -a plan -d 'Print the label and the intervals of each node'
 complete -c route -n "__bentzolu_is 'help'" -a walk -d 'Print the path from one node to another, with the interval that each node uses'
 complete -c route -n "__bentzolu_is 'help'" -a stats -d 'Print the figures of a plan'
@@ -228,3 +261,12 @@ complete -c route -n "__bentzolu_is 'help'" -a xdp -d 'Print the table of a node
 complete -c route -n "__bentzolu_is 'help'" -a sim -d 'Run a script step by step, and print what became of its packets'
 complete -c route -n "__bentzolu_is 'help'" -a live -d 'Run a script with a thread for each node, and print what became of its packets'
 complete -c route -n "__bentzolu_is 'help'" -a check -d 'Check the rows of a trace against the paths of the script\'s plans'
+complete -c route -n "__bentzolu_is 'generate'" -a 'topology'
+complete -c route -n "__bentzolu_is 'convert'" -F
+complete -c route -n "__bentzolu_is 'diff'" -F
+complete -c route -n "__bentzolu_is 'sweep'" -F
+complete -c route -n "__bentzolu_is 'lab'" -F
+complete -c route -n "__bentzolu_is 'agent'" -F
+complete -c route -n "__bentzolu_is 'controller'" -F
+complete -c route -n "__bentzolu_is 'fleet'" -F
+complete -c route -n "__bentzolu_is 'completions'" -a 'bash zsh fish'

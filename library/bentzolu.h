@@ -17,8 +17,8 @@ struct bentzolu_lengths {
 /* Does what words ask for over texts in memory, and answers the status of `bentzolu`: 0 done; 1 an input is refused, or there
    is a finding; 2 the words are refused; 3 out of memory, or the words are those of `live`.
 
-   Each word ends in a line feed: "plan\n--kind\ntree\ntopology\n". The second text is the script, or the order of nodes that
-   the words name. What there is room for of the output and of the faults is put into the rooms, and `lengths` has the
+   Each word ends in a line feed: "plan\n--kind\ntree\ntopology\n". The second text is the script, the new topology of `diff`, or
+   the order of nodes that the words name. What there is room for of the output and of the faults is put into the rooms, and `lengths` has the
    lengths of both. Where one is longer than its room, call again with a larger one.
 
    No pointer may be null, not even one of length 0; the rooms and `lengths` overlap nothing else. */

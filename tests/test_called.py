@@ -47,7 +47,7 @@ def called_so(program_: str, name: bytes) -> None:
 
     for words_ in (["--version"], ["--help"], ["-h"], ["help"], ["frob"], ["--frob"], ["plan"], ["plan", "--frob", "-"], ["sim", "-", "good/script"],
                    ["check", "good/topology"], ["live", "good/topology"], [b"\xff"], ["walk", "-"], ["stats", "--with", "best", "-"],
-                   *([sub, "--help"] for sub in (*TEXTS, "compare")), *(["help", sub] for sub in (*TEXTS, "compare")),
+                   *([sub, "--help"] for sub in (*TEXTS, "compare", "diff")), *(["help", sub] for sub in (*TEXTS, "compare", "diff")),
                    *([sub, "--explain", *[f"said/none-{i}" for i in range(parts)], *(["--from", "a", "--to", "b"] if sub == "walk" else [])]
                      for sub, parts in TEXTS.items()), *([*line, "--explain"] for line in every_call()),
                    ["plan", "--explain", "--root", "z", "good/topology"]):

@@ -29,9 +29,14 @@ SECONDS = 120  # that one shell may take for all
 
 # Lines that end where Tab is pressed, and what completes them; FILES are in the folder.
 LINES = [
-    ("route s", "sim stats"),
+    ("route s", "sim stats sweep"),
     ("route help s", "sim stats"),
-    ("route --", "--help --version"),
+    ("route --", "--color --help --pretty --version"),
+    ("route gen", "generate"),
+    ("route generate ", "topology"),
+    ("route convert CONTRIB", "CONTRIBUTED"),
+    ("route walk --pr", "--pretty"),
+    ("route stats --color ", "always auto never"),
     ("route walk --f", "--format --from"),
     ("route plan -k ", "compact landmark shortest tree"),
     ("route plan --kind ", "compact landmark shortest tree"),
@@ -54,6 +59,7 @@ JOINED = [
     ("route plan --kind=t", "tree"),
     ("route plan --kind=", "compact landmark shortest tree"),
     ("route plan --output=CONTRIB", "CONTRIBUTED"),
+    ("route live --color=n", "never"),
 ]
 FILES = {"CONTRIBUTED": "", "net.adjlist": "ab b # x y\na c\n", "net.edgelist": "ab b 3\na c 4 # 5\n"}
 

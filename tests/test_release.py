@@ -58,6 +58,17 @@ def try_sums(out: str) -> None:
     count("the sums", ran("sha256sum", "--check", "--quiet", "SHA256SUMS", cwd=out).returncode == 0)
 
 
+def try_package(out: str) -> None:
+    """Try the Debian package: it has the plane in XDP, where that can be built here."""
+    package, = glob.glob(f"{out}/*.deb")
+    listed = ran("dpkg-deb", "--contents", package).stdout
+    count("it has the program, the page and the library", all(it in listed for it in ("/bin/bentzolu", "/lab.html", "/libbentzolu.a")))
+    if not shutil.which("clang") or not os.path.exists("/usr/include/bpf/bpf_helpers.h"):
+        checks.skip("release", "there is no clang or libbpf-dev here, and the package has no plane")
+        return
+    count("it has the plane", all(it in listed for it in ("/bin/bentzolu-xdp", "/plane.bpf.o", "/watch.bpf.o", "/bentzolu-xdp.1.gz")))
+
+
 def try_alone(top: str) -> None:
     """Try the program in a folder that has a shell and no C library."""
     if os.geteuid() != 0 or not os.access(BUSYBOX, os.X_OK) or "static" not in ran("file", "-L", BUSYBOX).stdout:
@@ -117,4 +128,5 @@ def test_release() -> None:
     count(f"packaging/release: {it.stdout[-2000:]}", it.returncode == 0)
     if it.returncode == 0:
         try_sums(out)
+        try_package(out)
         try_tarball(out, folder)

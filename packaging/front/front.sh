@@ -72,8 +72,22 @@ complete_for() {
     exit 1
 }
 
+# The words of `diff` that the program does not take: a network in another format, or a file with an order of the nodes.
+diff_elsewhere() {
+    before=''
+    for word; do
+        case $before:$word in
+            *.gml | *.graphml | *.json | *.sndlib | *.csv | *.tsv | *.mtx | *.intra | *.weights | *.dot | *.gv | *.gexf | *.net | *.paj | *.pajek) return 0 ;;
+            *.g6 | *.graph6 | *.s6 | *.sparse6 | *.edges | *.multiline | *:--numbering=*[./]* | --numbering:*[./]* | -n:*[./]*) return 0 ;;
+        esac
+        before=$word
+    done
+    return 1
+}
+
 case "${1:-} ${2:-}" in
-    'agent '* | 'controller '* | 'fleet '* | 'diff '* | 'lab '* | 'sweep '* | 'plot '* | 'convert '* | 'generate '* | 'xdp '[!t-]*) hand_on "$@" ;;
+    'diff '*) ! diff_elsewhere "$@" || hand_on "$@" ;;
+    'agent '* | 'controller '* | 'fleet '* | 'lab '* | 'sweep '* | 'plot '* | 'convert '* | 'generate '* | 'xdp '[!t-]*) hand_on "$@" ;;
     'completions '*) complete_for "${2:-}" ;;
 esac
 
@@ -216,7 +230,7 @@ fi
 
 # Each fault has its sentence, as on a terminal.
 case $sub in
-    plan | walk | stats | compare | draw | prefixes | ranges | xdp | sim | live | check)
+    plan | walk | stats | compare | diff | draw | prefixes | ranges | xdp | sim | live | check)
         if [ -z "$is_explained$is_quiet$help" ]; then
             shift
             set -- "$sub" --explain "$@"

@@ -12,7 +12,7 @@ from .diffs import diff
 from .errors import BentzoluError, TopologyWarning
 from .options import detour_words
 from .relabelling import Relabeller
-from .sources import of_file, read_text
+from .sources import Topology, of_file, read_text
 from .texts import Plan
 
 
@@ -69,14 +69,39 @@ def shown(found: argparse.Namespace) -> None:
 
 def changed(found: argparse.Namespace) -> None:
     """`diff`: what each node changes between the plans of two networks of the same nodes."""
+    if found.numbering == "keep":
+        Relabeller(found.kind)  # refuses the kinds whose labels can't be kept
     with warnings.catch_warnings(record=True) as caught:
         warnings.simplefilter("always", TopologyWarning)
-        old, new = two_plans(found)
-        names = calls.names_of(found.new)
+        text = changes_of(found)
     for warning in caught:
         print(f"bentzolu {found.command}: {warning.message}", file=sys.stderr)
-    change = diff(old, new)
-    write(found.output, change.json(names) if found.json else change.text(names))
+    write(found.output, text)
+
+
+def changes_of(found: argparse.Namespace) -> str:
+    """What the program prints of both networks. A file that lists the nodes in order is read here alone, and so are networks in
+    which a node has two names for the program: then the plans are compared here."""
+    old, new = two_topologies(found)
+    if found.numbering not in (None, "depth-first", "tour", "keep") or dict(old.names.changed()) != dict(new.names.changed()):
+        change, names = diff(*two_plans(found)), calls.names_of(found.new)
+        return change.json(names) if found.json else change.text(names)
+    asked = [found.command, *calls.options(old, found.kind, None, detour_words(found.landmarks, found.stretch))]
+    asked += [f"--{name}={value}" for name, value in (("root", found.root), ("numbering", found.numbering)) if value is not None]
+    asked += ["--json"] if found.json else []
+    said = programs.run(asked, [("topology", old.text), ("new", new.text)], names=new.names)
+    old.warn()
+    new.warn(said.notes())
+    return said.output
+
+
+def two_topologies(found: argparse.Namespace) -> tuple[Topology, Topology]:
+    """Both networks: each as a file that the program reads itself, or both read here."""
+    files = (found.old, found.new)
+    old, new = map(of_file, files)
+    if isinstance(old.text, pathlib.Path) != isinstance(new.text, pathlib.Path):
+        old, new = (of_file(file, format_of(file, read_text(file)) or "adjlist") for file in files)
+    return old, new
 
 
 def two_plans(found: argparse.Namespace) -> tuple[Plan, Plan]:

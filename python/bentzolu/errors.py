@@ -73,8 +73,8 @@ class RouteError(BentzoluError):
     """The program ended with a status above 0.
 
     `status` is the exit status: 1 a refused input, 2 words that were not understood, 3 no memory or no thread. `text` is
-    what was on standard error. `about` is `topology`, `script`, `trace`, `numbering`, `opening`, `input`, `output` or
-    None; `kind` is the name of the fault, as `BadWeight` or `Disconnected`; `line` is the number of the faulty line, or
+    what was on standard error. `about` is `topology`, `new`, `script`, `trace`, `numbering`, `opening`, `input`, `output`
+    or None; `kind` is the name of the fault, as `BadWeight` or `Disconnected`; `line` is the number of the faulty line, or
     None, and `content` what is there. `sentence` says what is wrong, with the graph's own nodes, where the program
     has a sentence for it; else it is None.
     """
@@ -92,9 +92,9 @@ class RouteError(BentzoluError):
         super().__init__(f"{said}: {sentence}" if sentence else said)
 
 
-FAULT = re.compile(r"(?:route: )?(topology|script|trace|numbering) ([0-9]+) ([A-Za-z]+)")
-OPENING = re.compile(r"(?:route: )?opening ([A-Za-z]+)")
-UNREAD = re.compile(r"(?:route: )?(topology|script|trace|numbering|input|output) (unreadable|too large|unwritable)")
+FAULT = re.compile(r"(?:route: )?(topology|new|script|trace|numbering) ([0-9]+) ([A-Za-z]+)")
+OPENING = re.compile(r"(?:route: )?(opening|new) ([A-Z][A-Za-z]+)")
+UNREAD = re.compile(r"(?:route: )?(topology|new|script|trace|numbering|input|output) (unreadable|too large|unwritable)")
 LAST = {"out of memory": "NoMemory", "no thread": "NoThread"}
 
 
@@ -104,7 +104,7 @@ def fault_of(status: int, text: str) -> tuple[str | None, int | None, str]:
         if found := FAULT.match(line):
             return found[1], int(found[2]), found[3]
         if found := OPENING.match(line):
-            return "opening", None, found[1]
+            return found[1], None, found[2]
         if found := UNREAD.match(line):
             return found[1], None, found[2]
         for said, kind in LAST.items():

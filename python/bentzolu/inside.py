@@ -17,7 +17,7 @@ from .typed import Shown, Texts
 VARIABLE = "BENTZOLU_LIBRARY"
 BESIDE = pathlib.Path(__file__).resolve().parent / "libbentzolu.so"
 OF_SYSTEM = "libbentzolu.so.1"
-SUBCOMMANDS = ("plan", "walk", "stats", "compare", "draw", "prefixes", "ranges", "xdp", "sim", "check")
+SUBCOMMANDS = ("plan", "walk", "stats", "compare", "diff", "draw", "prefixes", "ranges", "xdp", "sim", "check")
 KEPT = ("keep", "keep,tour", "keep,depth-first")  # what names labels that are kept
 KEEPING = ("diff", "sim", "check")  # the subcommands that keep them
 OWN_TEXT = ("-h", "--help", "-V", "--version")  # words whose text the library gives as faults
@@ -111,7 +111,9 @@ def orders(words: Sequence[str]) -> list[str]:
 
 
 def order_of(words: Sequence[str]) -> str | None:
-    """The file of an order of nodes that words name; None where they name none."""
+    """The file of an order of nodes that words name; None where they name none, as those of `diff`, which takes no file."""
+    if words[:1] == ["diff"]:
+        return None
     own = ("depth-first", "tour", *(KEPT if words[0] in KEEPING else ()))
     return next((it for it in orders(words) if it not in own), None)
 

@@ -8,7 +8,7 @@ from . import program as programs
 from .errors import BentzoluError
 from .texts import Packet, Segment, write_trace
 
-PIECE = 4096  # packets that the program judges at once
+PIECE, LEAST = 4096, 32  # packets that the program judges at once, at most, and where it finds something of many
 FINDING = re.compile(r"finding (\d+) (\w+)")
 
 
@@ -98,12 +98,13 @@ def findings(story: Story, ways: Sequence[Way], tell: Callable[[int], None] = la
         Where the program can't judge them; the text says why.
     """
     found: Dict[int, str] = {}
-    weights, start = weights_of(story.text, story.form), 0
+    weights, start, size = weights_of(story.text, story.form), 0, PIECE
     while start < len(ways):
         tell(start)
-        piece = ways[start:start + PIECE]
+        piece = ways[start:start + size]
         place, word = first_finding(story, piece, weights)
         if word:  # the program says the first one alone; the rest is asked about anew
             found[piece[place].number] = word
         start += place + bool(word)
+        size = max(LEAST, 2 * place) if word else min(PIECE, 2 * size)
     return found

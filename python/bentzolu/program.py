@@ -17,7 +17,7 @@ VARIABLE = "BENTZOLU_ROUTE"
 NAME = "bentzolu"
 BUILT = pathlib.Path(__file__).resolve().parents[2] / "crates" / "route" / "out" / "route"
 EXPLAIN = ("--explain", "--no-explain")
-HEADS = ("plan", "walk", "stats", "compare", "prefixes", "graph", "trace", "ok", "finding")  # of all outputs
+HEADS = ("plan", "walk", "stats", "compare", "diff", "prefixes", "graph", "trace", "ok", "finding")  # of all outputs
 REFUSED = re.compile(r"^(.*):([0-9]+): ('.*') was refused: (.*)$")
 
 

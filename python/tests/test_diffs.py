@@ -94,9 +94,19 @@ class ChangesTest(unittest.TestCase):
             self.assertEqual((status, text.split()[5]), (0, "0"))
             status, text, faults = said(files["old"], files["other"])
             self.assertEqual((status, text), (1, ""))
-            self.assertIn("d is in the old plan only, e in the new one only", faults)
+            self.assertIn("no node 'e' in ", faults)
             self.assertEqual(said("--kind", "tree", "--numbering", "keep", files["old"], files["new"])[:2], (1, ""))
             self.assertEqual(said(files["old"], str(pathlib.Path(folder, "none")))[:2], (1, ""))
+            order = pathlib.Path(folder, "order")
+            order.write_text("a\nb\nc\nd\n")
+            self.assertEqual(said("--numbering", str(order), files["old"], files["new"]), (0, wanted, ""))
+            csv = pathlib.Path(folder, "new.csv")
+            csv.write_text("source,target\na,b\nb,c\nc,d\n")
+            self.assertEqual(said(files["old"], str(csv))[:2], (0, wanted))
+            old, new = pathlib.Path(folder, "old.csv"), pathlib.Path(folder, "other.csv")
+            old.write_text("source,target\nA x,b\nb,c\nc,A x\n")
+            new.write_text("source,target\nA x,b\nb,c\n")
+            self.assertEqual(said(str(old), str(new))[1], "diff shortest shortest 3 2 0 2 1\nA_x 0 0 - 2\nc 2 2 + 0 b - 1\n")
 
 
 if __name__ == "__main__":

@@ -5,7 +5,7 @@ from typing import Any
 from fractions import Fraction
 
 from common import bentzolu, needs_route, networkx
-from bentzolu import FormatError, LinkFigures, read_link_failures
+from bentzolu import FormatError, LinkFigures, read_link_failures, read_node_failures
 
 
 def figures_of(graph: Any, kind: Any) -> Any:
@@ -39,12 +39,29 @@ class Failing(unittest.TestCase):
         self.assertEqual(found.intact.ring, True)
         self.assertEqual({failure.figures.ring for failure in found.failures}, {False})
 
+    @needs_route
+    def test_nodes(self) -> None:
+        found = bentzolu.node_failures(networkx.cycle_graph(5), root=2)
+        path = figures_of(networkx.path_graph(4), "shortest")
+        self.assertEqual([failure.node for failure in found.failures], list(range(5)))
+        self.assertEqual({failure.figures.stretch for failure in found.failures}, {path.stretch})
+        self.assertEqual((found.intact.ring, {failure.figures.ring for failure in found.failures}), (True, {False}))
+        star = bentzolu.node_failures(networkx.star_graph(3), "tree")
+        self.assertEqual([failure.figures is None for failure in star.failures], [True, False, False, False])
+        self.assertEqual(star.failures[1].figures, figures_of(networkx.star_graph(2), "tree"))
+
     def test_texts(self) -> None:
         head = "each links tree 2 1 2 1 4 8/8 4/4 acyclic\n"
         for text in ("", "stats tree 2\n", "each links tree 2 1\n", head.replace("acyclic", "round"), head + "a b\n", head + "a b 1 2 3\n",
                      head + "a b 1 2 x 1/1 1/1 cycle\n"):
             with self.subTest(text=text), self.assertRaises(FormatError):
                 read_link_failures(text)
+        nodes = head.replace("links", "nodes")
+        for text in ("", head, nodes + "a\n", nodes + "a 1 2 3\n", nodes + "a b empty\n"):
+            with self.subTest(text=text), self.assertRaises(FormatError):
+                read_node_failures(text)
+        with self.assertRaises(FormatError):
+            read_link_failures(nodes)
         self.assertIsNone(read_link_failures("each links tree 1 0 0 0 0 - - acyclic\n").intact.stretch)
 
 

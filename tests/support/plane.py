@@ -5,7 +5,8 @@ by generic XDP and by tc (plane_node.py beside this file); the same over the pro
 libraries below it are built here, as rt ci leaves them, or over that of the variable MODULE; which modules plane/to_bpf
 refuses; and the lab over each plane, in which no packet may be lost or mixed, and in place some have to be.
 
-    plane.py [--large]      the checks of the gate, or 100 changes under traffic on each of three networks, and in place
+    plane.py [--large]      the checks of the gate, or 100 changes under traffic on each of three networks, and in place, and 20
+                            by the other planes
 
 It runs at the top of the repository, with python in PYTHONPATH and the program in BENTZOLU_ROUTE. The last line is
 `N passed, M failed` or that and `, K skipped`; the status is above 0 where something differs.
@@ -22,6 +23,8 @@ from bentzolu.lab_xdp import PROBE
 TOP = pathlib.Path.cwd()
 ROUTE = os.environ["BENTZOLU_ROUTE"]
 NODE_CHECKS, LAB_CHECKS, MODULE_CHECKS, RATIO_CHECKS = 215, 7, 10, 5
+if "--large" in sys.argv:
+    LAB_CHECKS = 12
 MOST_SECONDS = 3000 if "--large" in sys.argv else 300  # of a run of the lab
 MODULE = os.environ.pop("MODULE", None)  # of the proved search
 LEAST_RATE = 1_200  # thousand packets a second that pass without a look-up where nothing else runs
@@ -125,7 +128,8 @@ def of_lab(*words, differs=False, topology=ABILENE):
         if re.search(r"^lab: cannot run here: ", said, flags=re.M):
             return skip(1, said.strip().splitlines()[-1])
         if "--large" in sys.argv:
-            print(f"plane: {topology}: lab {' '.join(words)}: {' / '.join(output.splitlines()[-8:])}", flush=True)
+            packets = sum(map(int, re.findall(r"^packets \d+ (\d+)", output, flags=re.M)))
+            print(f"plane: {topology}: lab {' '.join(words)}: {packets} packets / {' / '.join(output.splitlines()[-4:])}", flush=True)
         lost, mixed = ([int(it) for it in re.findall(rf"^{name} (\d+)$", output, flags=re.M)] for name in ("lost", "mixed"))
         last = (output.splitlines() or [""])[-1]
         if differs:
@@ -138,11 +142,14 @@ def of_lab(*words, differs=False, topology=ABILENE):
 
 
 def of_labs():
-    """Changes under traffic over each plane; with --large 100 on each network, and in place on each."""
+    """Changes under traffic over each plane; with --large 100 on each network, and in place on each, and 20 by the other planes."""
     if "--large" in sys.argv:
         for topology in (ABILENE, NSFNET, GRID):
             of_lab("--plane", "xdp", "--changes", "100", topology=topology)
             of_lab("--plane", "xdp", "--in-place", differs=True, topology=topology)
+        for topology in (ABILENE, NSFNET):
+            for plane in ("generic", "tc", "nft"):
+                of_lab("--plane", plane, "--changes", "20", topology=topology)
         return
     of_lab("--plane", "xdp", "--changes", "10")
     of_lab("--plane", "xdp", "--changes", "10", topology=NSFNET)

@@ -18,7 +18,7 @@ from support.places import program, work
 Words = Sequence[Union[str, bytes]]
 Got = Tuple[bytes, bytes, Union[int, str]]  # output, faults and status, which is `hangs` where a run did not end
 
-# The subcommands, each with the texts that it takes; `compare`, which takes few of their options, has tests of its own.
+# The subcommands, each with the texts that it takes; `compare`, which takes few of their options, and `diff` have tests of their own.
 TEXTS = {"plan": 1, "walk": 1, "stats": 1, "draw": 1, "prefixes": 1, "ranges": 1, "sim": 2, "live": 2, "check": 3}
 NAMES = ["topology", "script", "trace"]
 
@@ -184,4 +184,5 @@ def as_nobody() -> Optional[Dict[str, Any]]:
 def every_call() -> List[List[str]]:
     """The words of each subcommand over good files."""
     good_files()
-    return [*(call(sub, [f"good/{name}" for name in NAMES[:parts]]) for sub, parts in TEXTS.items()), ["compare", "good/topology"]]
+    return [*(call(sub, [f"good/{name}" for name in NAMES[:parts]]) for sub, parts in TEXTS.items()), ["compare", "good/topology"],
+            ["diff", "good/topology", "good/topology"]]

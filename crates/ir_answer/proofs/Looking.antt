@@ -28,7 +28,7 @@ use Rattle.ir_core.specs.Codes.{open_error_of}
 use Rattle.ir_cli.specs.Lines.{numbering_line, opening_line}
 use Rattle.ir_cli.specs.Openings.{topology_fault, topology_graph, root_name, root_in, kind_asked, label_order, AnswersRoot, AnswersOrder}
 use Rattle.ir_cli.specs.declared.words.Sub.{Sub}
-use Rattle.ir_cli.specs.declared.words.Sub.TheVariants.{Plan as Planning, Walk, Stats, Compare, Draw, Prefixes, Ranges as Ranging, Xdp, Sim, Live, Check}
+use Rattle.ir_cli.specs.declared.words.Sub.TheVariants.{Plan as Planning, Walk, Stats, Compare, Diff, Draw, Prefixes, Ranges as Ranging, Xdp, Sim, Live, Check}
 use Rattle.ir_answer.specs.declared.look.Show.{Show}
 use Rattle.ir_answer.specs.declared.look.Show.TheVariants.{Between, Beside, Drawing, Circle}
 use Rattle.ir_answer.specs.Looks.{from_name, to_name, drawn_name, Says, AnswerShows, AnswersEnds, AnswersBothEnds, AnswersDrawn, AnswersBeside, AnswersFigures, AnswersShow, AnswersAsked, AnswersLook, AnswersLabels, AreTexts, LookAnswers, IsNode, IsLabelling, AreBeside, AreShown, IsNetwork, IsOneDrawn, IsShow, lines_shown, RefusesLabels, RefusesEnds, RefusesFigures, RefusesShow, AnswersPlanned, AnswersWithin, IsPlanned, RefusesPlanned, are_nodes}
@@ -61,14 +61,14 @@ of_order g ls answers answer places is holds =
     subst (λ (first : Option (ℕ × OrderFaultKind)). MatchOption first ((order : List ℕ) × IsOrder (names g) ls order × answers order answer) (λ f. answer ≡ Refused (numbering_line f)))
     (sym is.no_fault) (places, is, holds)
 
-of_labels : (words : Words) (order : Option (List ℕ)) (g : Adjacency) (answers : Labelling → Answer → Type 0) (labels : Labelling) (answer : Answer)
+pub of_labels : (words : Words) (order : Option (List ℕ)) (g : Adjacency) (answers : Labelling → Answer → Type 0) (labels : Labelling) (answer : Answer)
     → IsLabelling words order g labels → answers labels answer → AnswersLabels words order g answers answer
 of_labels words None g answers labels answer (root, is, same) holds =
     of_root g (root_name words) (λ u. answers (FromRoot (label_order words.numbering) u)) answer root is (subst (λ (l : Labelling). answers l answer) same holds)
 of_labels words (Some text) g answers labels answer (places, is, same) holds =
     of_order g (lines text) (λ order. answers (ByList order)) answer places is (subst (λ (l : Labelling). answers l answer) same holds)
 
-refuses_labels : (words : Words) (order : Option (List ℕ)) (g : Adjacency) (answers : Labelling → Answer → Type 0) (line : List ℕ)
+pub refuses_labels : (words : Words) (order : Option (List ℕ)) (g : Adjacency) (answers : Labelling → Answer → Type 0) (line : List ℕ)
     → RefusesLabels words order g line → AnswersLabels words order g answers (Refused line)
 refuses_labels words None g answers line refuses = option_more (root_in (names g) (root_name words)) (λ same. same) (λ u none. absurd none) refuses
 refuses_labels words (Some text) g answers line refuses =
@@ -129,6 +129,7 @@ of_show Ranging words g answers show answer same holds = subst (λ (s : Show). a
 of_show Xdp words g answers show answer (u, is, same) holds =
     of_root g (drawn_name words) (λ v. answers (lines_shown words v)) answer u is (subst (λ (s : Show). answers s answer) same holds)
 of_show Compare words g answers show answer none holds = absurd none
+of_show Diff words g answers show answer none holds = absurd none
 of_show Sim words g answers show answer none holds = absurd none
 of_show Live words g answers show answer none holds = absurd none
 of_show Check words g answers show answer none holds = absurd none
@@ -175,6 +176,7 @@ refuses_show Prefixes words g answers line refuses = absurd refuses
 refuses_show Ranging words g answers line refuses = absurd refuses
 refuses_show Xdp words g answers line refuses = option_more (root_in (names g) (drawn_name words)) (λ same. same) (λ u none. absurd none) refuses
 refuses_show Compare words g answers line refuses = absurd refuses
+refuses_show Diff words g answers line refuses = absurd refuses
 refuses_show Sim words g answers line refuses = absurd refuses
 refuses_show Live words g answers line refuses = absurd refuses
 refuses_show Check words g answers line refuses = absurd refuses
@@ -208,7 +210,7 @@ module _ (look : Sub) (words : Words) (texts : List (List ℕ)) (topology : List
 
 -- what shows a plan is an answer
 pub shown_plan : (g : Adjacency) (kind : Kind) (labels : Labelling) (show : Show) (plan : Plan) → IsPlanBy (topology_of_graph g) kind labels plan
-    → (answer : Answer) → AnswerShows show (names g) plan answer → AnswersText g kind labels (Says show (names g)) answer
+    → (answer : Answer) → AnswerShows show g plan answer → AnswersText g kind labels (Says show g) answer
 shown_plan g kind labels show plan built (Ran text refusals) shows = (record { plan = plan; built = built; said = shows.0 }, shows.1)
 shown_plan g kind labels show plan built (Found text) shows = absurd shows
 shown_plan g kind labels show plan built (Refused line) shows = absurd shows
@@ -216,7 +218,7 @@ shown_plan g kind labels show plan built NoThread shows = absurd shows
 
 -- what gives the walk of a plan that is not built is a text of that plan
 pub walk_says : (g : Adjacency) (kind : Kind) (labels : Labelling) (a b : ℕ) (text : List ℕ) → IsWalkOfPlan (names g) (topology_of_graph g) kind labels a b text
-    → IsTextOfPlan g kind labels (Says (Between a b) (names g)) text
+    → IsTextOfPlan g kind labels (Says (Between a b) g) text
 walk_says g kind labels a b text is = record { plan = is.plan; built = is.built; said = is.walks }
 
 -- what reports the refusal of a plan is an answer

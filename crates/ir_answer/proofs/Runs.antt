@@ -7,7 +7,7 @@ use Rattle.ir_cli.specs.declared.ending.Ending.TheVariants as endings
 use Rattle.ir_cli.specs.declared.read.Source.{Source}
 use Rattle.ir_cli.specs.declared.words.Words.{Words}
 use Rattle.ir_cli.specs.declared.words.Sub.{Sub}
-use Rattle.ir_cli.specs.declared.words.Sub.TheVariants.{Plan, Walk, Stats, Compare, Draw, Prefixes, Ranges, Xdp, Sim, Live, Check}
+use Rattle.ir_cli.specs.declared.words.Sub.TheVariants.{Plan, Walk, Stats, Compare, Diff, Draw, Prefixes, Ranges, Xdp, Sim, Live, Check}
 use Rattle.ir_cli.specs.Answer.{Answer, Ran, Found, Refused, NoThread}
 use Rattle.ir_cli.specs.Ending.{EndsAs}
 use Rattle.ir_cli.specs.Notices.{notice_line}
@@ -121,6 +121,7 @@ plain_without_live live Plan other words texts answer holds = holds
 plain_without_live live Walk other words texts answer holds = holds
 plain_without_live live Stats other words texts answer holds = holds
 plain_without_live live Compare other words texts answer holds = holds
+plain_without_live live Diff other words texts answer holds = holds
 plain_without_live live Draw other words texts answer holds = holds
 plain_without_live live Prefixes other words texts answer holds = holds
 plain_without_live live Ranges other words texts answer holds = holds
@@ -139,6 +140,7 @@ fits_sub Plan words fits = fits
 fits_sub Walk words fits = fits
 fits_sub Stats words fits = fits
 fits_sub Compare words fits = tt
+fits_sub Diff words fits = tt
 fits_sub Draw words fits = fits
 fits_sub Prefixes words fits = fits
 fits_sub Ranges words fits = fits

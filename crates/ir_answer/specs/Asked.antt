@@ -5,9 +5,10 @@ use Rattle.ir_cli.specs.declared.words.Words.{Words}
 use Rattle.ir_cli.specs.declared.read.Source.{Source}
 use Rattle.ir_cli.specs.declared.read.Source.TheVariants.{Input, Topology, Script, Trace, Numbering}
 use Rattle.ir_cli.specs.declared.words.Sub.{Sub}
-use Rattle.ir_cli.specs.declared.words.Sub.TheVariants.{Plan, Walk, Stats, Compare, Draw, Prefixes, Ranges, Xdp, Sim, Live, Check}
+use Rattle.ir_cli.specs.declared.words.Sub.TheVariants.{Plan, Walk, Stats, Compare, Diff, Draw, Prefixes, Ranges, Xdp, Sim, Live, Check}
 use Rattle.ir_answer.specs.Looks.{LookAnswers}
 use Rattle.ir_answer.specs.Compares.{compare_sources, CompareAnswers}
+use Rattle.ir_answer.specs.Diffs.{diff_sources, AnswersDiff}
 use Rattle.ir_cli.specs.Answer.{Answer, NoThread}
 use Rattle.ir_cli.specs.Words.{is_one_input, has_order, FitsItsKind}
 use Rattle.ir_cli.specs.Cut.{topology_part, script_part, EndsWithBytes}
@@ -27,7 +28,7 @@ sim_sources words = if is_one_input words then Input ∷ [] else Topology ∷ Sc
 abbrev pub check_sources : Words → List Source
 check_sources words = if is_one_input words then Input ∷ [] else Topology ∷ Script ∷ Trace ∷ []
 
--- the texts of a topology and of a script: the parts of one text that is cut, or two texts
+-- the texts of a topology and of a script, or of two topologies: the parts of one text that is cut, or two texts
 abbrev pub AreTwo : List (List ℕ) → List ℕ → List ℕ → Type 0
 AreTwo [] topology script = ⊥
 AreTwo (input ∷ []) topology script = (lines topology ≡ topology_part (lines input)) × (lines script ≡ script_part (lines input))
@@ -44,7 +45,11 @@ AreThree (first ∷ second ∷ []) topology script trace = ⊥
 AreThree (first ∷ second ∷ third ∷ []) topology script trace = (topology ≡ first) × (script ≡ second) × (trace ≡ third)
 AreThree (first ∷ second ∷ third ∷ fourth ∷ texts) topology script trace = ⊥
 
--- the answers of `sim` and of `check` to the texts of their inputs
+-- the answers of `diff`, of `sim` and of `check` to the texts of their inputs
+abbrev pub DiffAnswers : Words → List (List ℕ) → Answer → Type 0
+DiffAnswers words texts answer =
+    (old new : List ℕ) × AreTwo texts old new × AnswersTopology words.format (lines old) (AnswersDiff words (lines new)) answer
+
 abbrev pub SimAnswers : Words → List (List ℕ) → Answer → Type 0
 SimAnswers words texts answer =
     (topology script : List ℕ) × AreTwo texts topology script
@@ -61,6 +66,7 @@ sources_by Plan words = look_sources words
 sources_by Walk words = look_sources words
 sources_by Stats words = look_sources words
 sources_by Compare words = compare_sources words
+sources_by Diff words = diff_sources words
 sources_by Draw words = look_sources words
 sources_by Prefixes words = look_sources words
 sources_by Ranges words = look_sources words
@@ -78,6 +84,7 @@ FitsSub Sim words = Unit {0}
 FitsSub Live words = Unit {0}
 FitsSub Check words = Unit {0}
 FitsSub Compare words = Unit {0}
+FitsSub Diff words = Unit {0}
 FitsSub sub words = FitsItsKind words
 
 -- the answers of a subcommand as text, of which those of `live` are another crate's
@@ -87,6 +94,7 @@ module _ (live : Words → List (List ℕ) → Answer → Type 0) where
   PlainBy Walk words texts answer = LookAnswers Walk words texts answer
   PlainBy Stats words texts answer = LookAnswers Stats words texts answer
   PlainBy Compare words texts answer = CompareAnswers words texts answer
+  PlainBy Diff words texts answer = DiffAnswers words texts answer
   PlainBy Draw words texts answer = LookAnswers Draw words texts answer
   PlainBy Prefixes words texts answer = LookAnswers Prefixes words texts answer
   PlainBy Ranges words texts answer = LookAnswers Ranges words texts answer

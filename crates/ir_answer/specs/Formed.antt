@@ -7,7 +7,7 @@ use Rattle.ir_json.specs.declared.shape.Shape.TheVariants as shapes
 use Rattle.ir_json.specs.JsonText.{json_text}
 use Rattle.ir_cli.specs.declared.words.Words.{Words}
 use Rattle.ir_cli.specs.declared.words.Sub.{Sub}
-use Rattle.ir_cli.specs.declared.words.Sub.TheVariants.{Plan, Walk, Stats, Compare, Draw, Prefixes, Ranges, Xdp, Sim, Live, Check}
+use Rattle.ir_cli.specs.declared.words.Sub.TheVariants.{Plan, Walk, Stats, Compare, Diff, Draw, Prefixes, Ranges, Xdp, Sim, Live, Check}
 use Rattle.ir_cli.specs.Answer.{Answer, Ran, Found, Refused, NoThread}
 use Rattle.ir_cli.specs.declared.ending.Ending.TheVariants as endings
 use Rattle.ir_cli.specs.declared.outcome.RunOutcome.{RunOutcome}
@@ -26,8 +26,9 @@ plan_shape words = if words.order_alone then shapes.Order else if is_some words.
 abbrev pub shape_of : Sub → Words → Option Shape
 shape_of Plan words = Some (plan_shape words)
 shape_of Walk words = Some shapes.Walk
-shape_of Stats words = Some (if words.each then shapes.Failures else shapes.Stats)
+shape_of Stats words = Some (if words.each then (if words.by_node then shapes.Losses else shapes.Failures) else shapes.Stats)
 shape_of Compare words = Some shapes.Compare
+shape_of Diff words = Some shapes.Diff
 shape_of Draw words = None
 shape_of Prefixes words = Some shapes.Prefixes
 shape_of Ranges words = Some shapes.Ranges

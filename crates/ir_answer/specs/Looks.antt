@@ -1,7 +1,7 @@
 -- What a topology comes to as a text that shows its plan: its rows, those of some nodes, the order of its labels, a walk,
--- its figures, those without each of its links, a drawing, the circle of its labels, its forwarding tables, its ranges of
+-- its figures, those without each of its links or nodes, a drawing, the circle of its labels, its forwarding tables, its ranges of
 -- labels, or the lines of a node's row, which may also be bytes.
-use Rattle.std.specs.Prelude.{◌≡◌, ◌<◌, ◌≤◌, ℕ, length, Bool, true, false, IfSome, List, [], ◌∷◌, Option, None, Some, if◌then◌else◌, string_bytes, nat_le, nat_lt, ◌&&◌}
+use Rattle.std.specs.Prelude.{◌≡◌, ◌<◌, ◌≤◌, ◌-◌, ℕ, length, Bool, true, false, IfSome, List, [], ◌∷◌, Option, None, Some, if◌then◌else◌, string_bytes, nat_le, nat_lt, ◌&&◌}
 use Rattle.std.specs.Option.{option_map}
 use Rattle.std.specs.Borrow.{Bor}
 use Rattle.ir_model.specs.Graph.{Name, Adjacency, names}
@@ -10,7 +10,7 @@ use Rattle.ir_show.specs.PlanText.{plan_text}
 use Rattle.ir_show.specs.SpanText.{text_of_span}
 use Rattle.ir_show.specs.WalkText.{IsWalkOf}
 use Rattle.ir_figures.specs.FiguresText.{AreFiguresOf, AreFiguresBeside}
-use Rattle.ir_figures.specs.Failures.{AreLinkFailures}
+use Rattle.ir_figures.specs.Failures.{AreLinkFailures, AreNodeFailures}
 use Rattle.ir_show.specs.Drawing.{IsDrawingOf}
 use Rattle.ir_exports.specs.Circle.{circle_svg}
 use Rattle.ir_exports.specs.Ring.{circle_dot}
@@ -22,14 +22,14 @@ use Rattle.ir_cli.specs.declared.words.Words.{Words}
 use Rattle.ir_cli.specs.declared.words.Second.{Second}
 use Rattle.ir_cli.specs.declared.words.Span.{Span}
 use Rattle.ir_cli.specs.declared.words.Sub.{Sub}
-use Rattle.ir_cli.specs.declared.words.Sub.TheVariants.{Plan as Planning, Walk, Stats, Compare, Draw, Prefixes, Ranges as Ranging, Xdp, Sim, Live, Check}
+use Rattle.ir_cli.specs.declared.words.Sub.TheVariants.{Plan as Planning, Walk, Stats, Compare, Diff, Draw, Prefixes, Ranges as Ranging, Xdp, Sim, Live, Check}
 use Rattle.ir_model.specs.declared.Detour.{Detour}
 use Rattle.ir_model.specs.declared.Kind.{Kind}
 use Rattle.ir_cli.specs.Kinds.{detour_of, kind_of}
 use Rattle.ir_plan.specs.declared.tour.LabelOrder.{LabelOrder}
 use Rattle.ir_plan.specs.declared.tour.LabelOrder.TheVariants.{DepthFirst}
 use Rattle.ir_answer.specs.declared.look.Show.{Show}
-use Rattle.ir_answer.specs.declared.look.Show.TheVariants.{Rows, Nodes, Between, Figures, Beside, Each, Drawing, Circle, Tables, Ranges, Lines, Bytes, Order}
+use Rattle.ir_answer.specs.declared.look.Show.TheVariants.{Rows, Nodes, Between, Figures, Beside, Each, EachNode, Drawing, Circle, Tables, Ranges, Lines, Bytes, Order}
 use Rattle.ir_script.specs.Order.{IsOrder}
 use Rattle.ir_cli.specs.Answer.{Answer, Ran, Found, Refused, NoThread}
 use Rattle.ir_cli.specs.Lines.{opening_line}
@@ -75,13 +75,17 @@ AnswersBeside detour None g answers = answers Figures
 AnswersBeside detour (Some second) g answers =
     AnswersRoot g (option_map string_bytes second.root) (λ root. answers (Beside (kind_of second.kind detour) root))
 
--- the order in which plans without a link are labelled, if they don't keep the labels of a list
+-- the order in which plans without a link or a node are labelled, if they don't keep the labels of a list
 abbrev pub order_again : Words → Option LabelOrder
 order_again words = if has_order words then None else Some (label_order words.numbering)
 
--- The answer to a graph where figures are asked for, those without each link or those beside a second plan.
+-- the figures without each link, or without each node by plans of the kind that is asked for of a node less
+abbrev pub each_shown : Words → Adjacency → Show
+each_shown words g = if words.by_node then EachNode (kind_asked words (length g - 1)) (order_again words) else Each (order_again words)
+
+-- The answer to a graph where figures are asked for, those without each link or node or those beside a second plan.
 abbrev pub AnswersFigures : Bool → Words → Adjacency → (Show → Answer → Type 0) → Answer → Type 0
-AnswersFigures true words g answers = answers (Each (order_again words))
+AnswersFigures true words g answers = answers (each_shown words g)
 AnswersFigures false words g answers = AnswersBeside (detour_of words.detour (length g)) words.second g answers
 
 -- the text is that of a plan's figures beside a second plan of this kind, numbered depth first from this root
@@ -93,27 +97,28 @@ abbrev pub circle_text : Bool → List Name → Plan → ℕ → List ℕ
 circle_text is_svg nodes plan u = if is_svg then circle_svg nodes plan u else circle_dot nodes plan u
 
 -- what a text of a plan says, by what is shown
-abbrev pub Says : Show → List Name → Plan → List ℕ → Type 0
-Says Rows nodes plan text = text ≡ plan_text nodes plan
-Says (Nodes first last) nodes plan text = text ≡ text_of_span nodes plan first last
-Says (Between a b) nodes plan text = IsWalkOf nodes plan a b text
-Says Figures nodes plan text = AreFiguresOf nodes plan text
-Says (Beside kind root) nodes plan text = IsFiguresBeside kind root nodes plan text
-Says (Each labels) nodes plan text = AreLinkFailures nodes plan labels text
-Says (Drawing ends) nodes plan text = IsDrawingOf nodes plan ends text
-Says (Circle u is_svg) nodes plan text = text ≡ circle_text is_svg nodes plan u
-Says (Tables is_disjoint) nodes plan text = IsPrefixesOf is_disjoint nodes plan text
-Says Ranges nodes plan text = text ≡ ranges_text nodes plan
-Says (Lines u epoch) nodes plan text = IsLinesText plan u epoch text
-Says (Bytes u epoch) nodes plan text = AreLinesBytes plan u epoch text
-Says Order nodes plan text = text ≡ order_text nodes plan
+abbrev pub Says : Show → Adjacency → Plan → List ℕ → Type 0
+Says Rows g plan text = text ≡ plan_text (names g) plan
+Says (Nodes first last) g plan text = text ≡ text_of_span (names g) plan first last
+Says (Between a b) g plan text = IsWalkOf (names g) plan a b text
+Says Figures g plan text = AreFiguresOf (names g) plan text
+Says (Beside kind root) g plan text = IsFiguresBeside kind root (names g) plan text
+Says (Each labels) g plan text = AreLinkFailures (names g) plan labels text
+Says (EachNode kind labels) g plan text = AreNodeFailures g plan kind labels text
+Says (Drawing ends) g plan text = IsDrawingOf (names g) plan ends text
+Says (Circle u is_svg) g plan text = text ≡ circle_text is_svg (names g) plan u
+Says (Tables is_disjoint) g plan text = IsPrefixesOf is_disjoint (names g) plan text
+Says Ranges g plan text = text ≡ ranges_text (names g) plan
+Says (Lines u epoch) g plan text = IsLinesText plan u epoch text
+Says (Bytes u epoch) g plan text = AreLinesBytes plan u epoch text
+Says Order g plan text = text ≡ order_text (names g) plan
 
 -- what an answer says of a plan, by what is shown
-abbrev pub AnswerShows : Show → List Name → Plan → Answer → Type 0
-AnswerShows show nodes plan (Ran text refusals) = Says show nodes plan text × (refusals ≡ [])
-AnswerShows show nodes plan (Found text) = ⊥
-AnswerShows show nodes plan (Refused line) = ⊥
-AnswerShows show nodes plan NoThread = ⊥
+abbrev pub AnswerShows : Show → Adjacency → Plan → Answer → Type 0
+AnswerShows show g plan (Ran text refusals) = Says show g plan text × (refusals ≡ [])
+AnswerShows show g plan (Found text) = ⊥
+AnswerShows show g plan (Refused line) = ⊥
+AnswerShows show g plan NoThread = ⊥
 
 -- the ends of what is shown, its node, or its second root, if it has any, are among so many nodes
 abbrev pub AreAmong : ℕ → Show → Type 0
@@ -123,6 +128,7 @@ AreAmong n (Between a b) = (a < n) × (b < n)
 AreAmong n Figures = Unit {0}
 AreAmong n (Beside kind root) = root < n
 AreAmong n (Each labels) = Unit {0}
+AreAmong n (EachNode kind labels) = Unit {0}
 AreAmong n (Drawing ends) = IfSome ends (λ e. (e.0 < n) × (e.1 < n))
 AreAmong n (Circle u is_svg) = u < n
 AreAmong n (Tables is_disjoint) = Unit {0}
@@ -135,11 +141,17 @@ AreAmong n Order = Unit {0}
 abbrev pub IsText : Show → Type 0
 IsText Rows = ⊥
 IsText (Bytes u epoch) = ⊥
+IsText (EachNode kind labels) = ⊥
 IsText show = Unit {0}
+
+-- what is shown is of one graph, and not also of the graphs without each node
+abbrev pub IsOfOneGraph : Show → Type 0
+IsOfOneGraph (EachNode kind labels) = ⊥
+IsOfOneGraph show = Unit {0}
 
 -- the answer to a graph, a kind and labels, by what is shown
 abbrev pub AnswersShow : Kind → Adjacency → Labelling → Show → Answer → Type 0
-AnswersShow kind g labels show = AnswersText g kind labels (Says show (names g))
+AnswersShow kind g labels show = AnswersText g kind labels (Says show g)
 
 -- the nodes from the first to the last are nodes of the graph
 abbrev pub are_nodes : Span → Adjacency → Bool
@@ -163,6 +175,7 @@ lines_shown words u = if words.binary then Bytes u words.epoch else Lines u word
 -- the subcommands that show a plan
 abbrev pub ShowsPlan : Sub → Type 0
 ShowsPlan Compare = ⊥
+ShowsPlan Diff = ⊥
 ShowsPlan Sim = ⊥
 ShowsPlan Live = ⊥
 ShowsPlan Check = ⊥
@@ -179,6 +192,7 @@ AnswersAsked Prefixes words g answers = answers (Tables words.disjoint)
 AnswersAsked Ranging words g answers = answers Ranges
 AnswersAsked Xdp words g answers = AnswersRoot g (drawn_name words) (λ u. answers (lines_shown words u))
 AnswersAsked Compare words g answers = λ answer. ⊥
+AnswersAsked Diff words g answers = λ answer. ⊥
 AnswersAsked Sim words g answers = λ answer. ⊥
 AnswersAsked Live words g answers = λ answer. ⊥
 AnswersAsked Check words g answers = λ answer. ⊥
@@ -236,7 +250,7 @@ AreBeside detour (Some second) g show =
 
 -- the figures that the words ask for
 abbrev pub AreShown : Bool → Words → Adjacency → Show → Type 0
-AreShown true words g show = show ≡ Each (order_again words)
+AreShown true words g show = show ≡ each_shown words g
 AreShown false words g show = AreBeside (detour_of words.detour (length g)) words.second g show
 
 -- the drawing of the network, with the ends where both are named
@@ -264,6 +278,7 @@ IsShow Prefixes words g show = show ≡ Tables words.disjoint
 IsShow Ranging words g show = show ≡ Ranges
 IsShow Xdp words g show = (u : ℕ) × IsNode g (drawn_name words) u × (show ≡ lines_shown words u)
 IsShow Compare words g show = ⊥
+IsShow Diff words g show = ⊥
 IsShow Sim words g show = ⊥
 IsShow Live words g show = ⊥
 IsShow Check words g show = ⊥

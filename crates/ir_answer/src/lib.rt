@@ -10,6 +10,8 @@
 mod asking;
 mod checking;
 mod comparing;
+mod diffing;
+mod failing;
 mod forming;
 mod laws;
 mod look;

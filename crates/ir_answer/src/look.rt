@@ -1,9 +1,10 @@
 //! What is shown of a topology's plan, from the text of the topology.
-ghost use Rattle.std.specs.Prelude.{◌≡◌, ◌≢◌, ◌<◌, ◌≤◌, ℕ, true, IfOk, IfErr, IfSome, IsSome, length, string_bytes};
+ghost use Rattle.std.specs.Prelude.{◌≡◌, ◌≢◌, ◌<◌, ◌≤◌, ℕ, true, IfOk, IfErr, IfNone, IfSome, IsSome, length, string_bytes};
 ghost use Rattle.ir_model.specs.{Graph.names, Topology.node_count};
 ghost use Rattle.ir_answer.specs.Asked.{look_sources};
-ghost use Rattle.ir_answer.specs.Looks.{from_name, to_name, circle_text, AnswersShow, AreAmong, AreTexts, Says, AnswerShows, order_in, IsNode, IsLabelling, AreShown, IsDrawn, IsShow, IsText, lines_shown, order_again, RefusesLabels, RefusesEnds, RefusesFigures, RefusesDrawn, RefusesShow, ShowsPlan, LookAnswers, IsFiguresBeside, IsPlanned, RefusesPlanned};
+ghost use Rattle.ir_answer.specs.Looks.{from_name, to_name, circle_text, AnswersShow, AreAmong, AreTexts, Says, AnswerShows, order_in, IsNode, IsLabelling, AreShown, IsDrawn, IsShow, IsText, IsOfOneGraph, lines_shown, each_shown, order_again, RefusesLabels, RefusesEnds, RefusesFigures, RefusesDrawn, RefusesShow, ShowsPlan, LookAnswers, IsFiguresBeside, IsPlanned, RefusesPlanned};
 ghost use Rattle.ir_answer.specs.Stops.{StopsAs, Gives};
+ghost use Rattle.ir_answer.specs.Failing.{IsRead};
 ghost use Rattle.ir_cli.specs.Answer.{Refused};
 ghost use Rattle.ir_model.specs.OfGraph.{topology_of_graph};
 ghost use Rattle.ir_plan.specs.{Building.{FromRoot, IsPlanBy, MayLabel, labelling_of}, Starts.IsOfShortestWays};
@@ -11,8 +12,9 @@ ghost use Rattle.ir_show.specs.Plans.{NeedsNoTour};
 ghost use Rattle.ir_answer.specs.Plans.{AnswersText};
 ghost use Rattle.ir_cli.specs.{Kinds.detour_of, Openings.kind_asked, Reading.texts_of, Words.{FitsItsKind, takes_list}};
 
+use crate::failing::node_failures;
 use crate::asking::{AnswerStop, opening_stop, read_graph, read_node};
-use ir_cli::{Notice, RunReply, Sub, Words, kind_asked, label_order, no_root};
+use ir_cli::{Format, Notice, RunReply, Sub, Words, kind_asked, label_order, no_root};
 use ir_core::OpenError;
 use ir_exports::{
     circle_dot, circle_svg, lines_bytes, lines_text, order_text, prefixes_text_by, ranges_text,
@@ -42,6 +44,8 @@ pub enum Show {
     /// The figures, and those without each link: of plans labelled in this order, or where there is none with the labels
     /// of the plan of the whole network.
     Each(Option<LabelOrder>),
+    /// The figures, and those without each node: of plans of this kind, labelled in the same way.
+    EachNode(Kind, Option<LabelOrder>),
     /// A drawing, with the walk between two nodes in bold if there are any.
     Drawing(Option<(u16, u16)>),
     /// The circle of labels with the intervals of a node: as SVG, or for Graphviz.
@@ -131,10 +135,10 @@ fn text_of(
     requires nodes { node_count plan.now.topology ≡ length graph.now }
     requires ends { AreAmong (length graph.now) show }
     requires text { IsText show }
-    ensures { IfOk result (λ text. Says show (names graph.now) plan.now (string_bytes text)) }
+    ensures { IfOk result (λ text. Says show graph.now plan.now (string_bytes text)) }
 {
     match show {
-        Show::Rows | Show::Bytes(_, _) => unreachable!(),
+        Show::Rows | Show::Bytes(_, _) | Show::EachNode(_, _) => unreachable!(),
         Show::Nodes(first, last) => span_text(alloc, graph, plan, (first, last)),
         Show::Between(from, to) => walk_text(alloc, graph, plan, from, to),
         Show::Figures => figures_text(alloc, graph, plan),
@@ -152,7 +156,7 @@ fn text_of(
 /// The answer that shows the rows of a plan, whose text is written as it is made.
 fn rows_reply(alloc: Global, graph: Graph, plan: Plan) -> Result<RunReply, AnswerStop>
     requires { node_count plan.topology ≡ length graph }
-    ensures { Gives (AnswerShows Show.Rows (names graph) plan) result }
+    ensures { Gives (AnswerShows Show.Rows graph plan) result }
 {
     let Ok(text) = PlanText::new(alloc, graph, plan) else {
         return Err(AnswerStop::NoMemory);
@@ -171,7 +175,8 @@ fn text_reply(
     requires nodes { node_count plan.now.topology ≡ length graph.now }
     requires ends { AreAmong (length graph.now) show }
     requires no_rows { show ≢ Show.Rows }
-    ensures { Gives (AnswerShows show (names graph.now) plan.now) result }
+    requires one { IsOfOneGraph show }
+    ensures { Gives (AnswerShows show graph.now plan.now) result }
 {
     if let Show::Bytes(node, epoch) = show {
         let Ok(bytes) = lines_bytes(alloc, plan, node, epoch) else {
@@ -200,7 +205,7 @@ fn look_texts<'a>(words: &Words, texts: &'a [Vec<u8>]) -> (&'a [u8], Option<&'a 
 }
 
 /// By what the words ask the nodes to be labelled: from the root that they name, or by an order where there is one.
-fn read_labels(
+pub fn read_labels(
     alloc: Global,
     words: &Words,
     graph: &Graph,
@@ -240,7 +245,7 @@ fn read_ends(words: &Words, graph: &Graph) -> Result<(u16, u16), AnswerStop>
     Ok((from, to))
 }
 
-/// In what order the plans without a link are labelled: in that of the words, or where these have a list in none, which
+/// In what order the plans without a link or a node are labelled: in that of the words, or where these have a list in none, which
 /// keeps the labels.
 fn order_again(words: &Words) -> Option<LabelOrder>
     ensures { result ≡ order_again words.now }
@@ -252,14 +257,28 @@ fn order_again(words: &Words) -> Option<LabelOrder>
     }
 }
 
-/// The figures, those without each link, or those beside a second plan, as the words ask for.
+/// The figures without each link or each node, as the words ask for.
+fn each_shown(words: &Words, graph: &Graph) -> Show
+    ensures { result ≡ each_shown words.now graph.now }
+{
+    graph.invariant();
+    let order = order_again(words);
+    if words.by_node {
+        let left = graph.number_of_nodes().saturating_sub(1);
+        Show::EachNode(kind_asked(words, left), order)
+    } else {
+        Show::Each(order)
+    }
+}
+
+/// The figures, those without each link or node, or those beside a second plan, as the words ask for.
 fn read_figures(words: &Words, graph: &Graph) -> Result<Show, AnswerStop>
     ensures show { IfOk result (λ show. AreShown words.now.each words.now graph.now show) }
     ensures among { IfOk result (λ show. 0 < length graph.now → AreAmong (length graph.now) show) }
     ensures stop { IfErr result (λ s. StopsAs s (RefusesFigures words.now.each words.now graph.now)) }
 {
     if words.each {
-        return Ok(Show::Each(order_again(words)));
+        return Ok(each_shown(words, graph));
     }
     let Some(second) = &words.second else {
         return Ok(Show::Figures);
@@ -324,7 +343,7 @@ fn read_show(sub: Sub, words: &Words, graph: &Graph) -> Result<Show, AnswerStop>
     ensures stop { IfErr result (λ s. StopsAs s (RefusesShow sub words.now graph.now)) }
 {
     match sub {
-        Sub::Compare | Sub::Sim | Sub::Live | Sub::Check => unreachable!(),
+        Sub::Compare | Sub::Diff | Sub::Sim | Sub::Live | Sub::Check => unreachable!(),
         Sub::Plan => read_rows(words, graph),
         Sub::Stats => read_figures(words, graph),
         Sub::Prefixes => Ok(Show::Tables(words.disjoint)),
@@ -370,7 +389,7 @@ fn show_walk(
     requires labels { MayLabel (topology_of_graph graph.now) kind (labelling_of labels) }
     requires alone { NeedsNoTour (length graph.now) (labelling_of labels) }
     ensures { Gives (AnswersText graph.now kind (labelling_of labels)
-        (Says (Show.Between ends.0 ends.1) (names graph.now))) result }
+        (Says (Show.Between ends.0 ends.1) graph.now)) result }
 {
     let Ok(topology) = Topology::of(alloc, graph) else {
         return Err(AnswerStop::NoMemory);
@@ -409,7 +428,7 @@ fn show_nodes(
     requires labels { MayLabel (topology_of_graph graph.now) kind (labelling_of labels) }
     requires alone { NeedsNoTour (length graph.now) (labelling_of labels) }
     ensures { Gives (AnswersText graph.now kind (labelling_of labels)
-        (Says (Show.Nodes span.0 span.1) (names graph.now))) result }
+        (Says (Show.Nodes span.0 span.1) graph.now)) result }
 {
     let Ok(topology) = Topology::of(alloc, graph) else {
         return Err(AnswerStop::NoMemory);
@@ -472,6 +491,7 @@ fn show_text(
     requires labels { MayLabel (topology_of_graph graph.now) kind (labelling_of labels) }
     requires ends { 0 < length graph.now → AreAmong (length graph.now) show }
     requires no_rows { show ≢ Show.Rows }
+    requires one { IsOfOneGraph show }
     ensures { Gives (AnswersShow kind graph.now (labelling_of labels) show) result }
 {
     if let Some(ends) = ends_alone(show, kind, graph.number_of_nodes(), &labels) {
@@ -501,11 +521,74 @@ fn show_plan(
 ) -> Result<RunReply, AnswerStop>
     requires labels { MayLabel (topology_of_graph graph) kind (labelling_of labels) }
     requires ends { 0 < length graph → AreAmong (length graph) show }
+    requires one { IsOfOneGraph show }
     ensures { Gives (AnswersShow kind graph (labelling_of labels) show) result }
 {
     match show {
         Show::Rows => show_rows(crew, alloc, kind, graph, labels),
         _ => show_text(crew, alloc, kind, &graph, labels, show),
+    }
+}
+
+/// The figures without each node, if they are what is shown: of plans of which kind, labelled in which order.
+fn node_failures_in(show: Show) -> Option<(Kind, Option<LabelOrder>)>
+    ensures some { IfSome result (λ asked. show ≡ Show.EachNode asked.0 asked.1) }
+    ensures none { IfNone result (IsOfOneGraph show) }
+{
+    match show {
+        Show::EachNode(kind, order) => Some((kind, order)),
+        _ => None,
+    }
+}
+
+/// The answer that gives the figures of a plan and those without each node, or what refuses the plan. The text is that
+/// which the graph was read from.
+fn show_node_failures(
+    crew: &impl Crew,
+    alloc: Global,
+    format: Format,
+    text: &[u8],
+    kind: Kind,
+    graph: &Graph,
+    labels: Labels,
+    left: (Kind, Option<LabelOrder>),
+) -> Result<RunReply, AnswerStop>
+    requires labels { MayLabel (topology_of_graph graph.now) kind (labelling_of labels) }
+    requires read { IsRead format text.now graph.now }
+    ensures { Gives (AnswersShow kind graph.now (labelling_of labels) (Show.EachNode left.0 left.1)) result }
+{
+    match plan_of(crew, alloc, kind, graph, labels) {
+        Ok(plan) => {
+            let (left, order) = left;
+            let Ok(told) = node_failures(crew, alloc, format, text, graph, &plan, left, order)
+            else {
+                return Err(AnswerStop::NoMemory);
+            };
+            Ok(RunReply::Ran(told, Vec::new(alloc)))
+        }
+        Err(stop) => Err(stop),
+    }
+}
+
+/// The answer that shows a plan over the network of a graph that was read from a text, or says what refuses it.
+fn show_read(
+    crew: &impl Crew,
+    alloc: Global,
+    format: Format,
+    text: &[u8],
+    kind: Kind,
+    graph: Graph,
+    labels: Labels,
+    show: Show,
+) -> Result<RunReply, AnswerStop>
+    requires labels { MayLabel (topology_of_graph graph) kind (labelling_of labels) }
+    requires ends { 0 < length graph → AreAmong (length graph) show }
+    requires read { IsRead format text.now graph }
+    ensures { Gives (AnswersShow kind graph (labelling_of labels) show) result }
+{
+    match node_failures_in(show) {
+        Some(left) => show_node_failures(crew, alloc, format, text, kind, &graph, labels, left),
+        None => show_plan(crew, alloc, kind, graph, labels, show),
     }
 }
 
@@ -536,7 +619,10 @@ pub fn look_at(
     let labels = read_labels(alloc, words, &graph, order)?;
     let kind = kind_over(words, &graph);
     match read_show(sub, words, &graph) {
-        Ok(show) => show_plan(crew, alloc, kind, graph, labels, show),
+        Ok(show) => {
+            let format = words.format;
+            show_read(crew, alloc, format, topology, kind, graph, labels, show)
+        }
         Err(stop) => Err(stop),
     }
 }

@@ -8,6 +8,7 @@ ghost use Rattle.ir_cli.specs.{Reading.texts_of, Notices.{told_text, ShowsFound}
 use crate::asking::{AnswerStop, three_texts, two_texts};
 use crate::checking::check;
 use crate::comparing::compare;
+use crate::diffing::diff;
 use crate::forming::form_of;
 use crate::look::look_at;
 use crate::play::simulate;
@@ -45,8 +46,9 @@ pub fn sources_by(sub: Sub, words: &Words) -> &'static [Source]
         Sub::Plan | Sub::Walk | Sub::Stats | Sub::Draw | Sub::Prefixes | Sub::Ranges | Sub::Xdp => {
             look_sources(words)
         }
-        Sub::Compare | Sub::Sim | Sub::Live | Sub::Check if is_one => &[Source::Input],
+        Sub::Compare | Sub::Diff | Sub::Sim | Sub::Live | Sub::Check if is_one => &[Source::Input],
         Sub::Compare => &[Source::Topology],
+        Sub::Diff => &[Source::Topology, Source::New],
         Sub::Sim | Sub::Live => &[Source::Topology, Source::Script],
         Sub::Check => &[Source::Topology, Source::Script, Source::Trace],
     }
@@ -76,6 +78,10 @@ fn answer_by<C: Crew>(
             look_at(crew, alloc, request.sub, words, texts)
         }
         Sub::Compare => compare(crew, alloc, words, texts),
+        Sub::Diff => {
+            let (old, new) = two_texts(words, texts);
+            diff(crew, alloc, words, old, new)
+        }
         Sub::Sim => {
             let (topology, script) = two_texts(words, texts);
             simulate(crew, alloc, words, topology, script)
@@ -208,7 +214,7 @@ pub fn run_check<R: Reader, W: Writer, F: Writer>(
 /// any.
 ///
 /// `plan`, `sim` and `check` are `run_plan`, `run_sim` and `run_check`. The other subcommands of a plan read what
-/// `plan` does, and `compare` a topology alone; each writes the one text that it shows, or its JSON where the words
+/// `plan` does, `compare` a topology alone, and `diff` two topologies; each writes the one text that it shows, or its JSON where the words
 /// ask for that. `live` wants threads of nodes: its inputs are read, and it is reported as `no thread`.
 ///
 /// Conditions: an order is of no plan of kind Tree; the inputs are a reader for each text, or for

@@ -1,6 +1,7 @@
 pub mod Marks
 pub mod Runs
 pub mod Parts
+pub mod LedWords
 pub mod Numbers
 pub mod Held
 pub mod Blocks

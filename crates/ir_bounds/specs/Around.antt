@@ -1,9 +1,10 @@
 -- The distances to landmarks.
 use Rattle.std.specs.Prelude.{◌≡◌, ℕ, ◌<◌, List, [], length, slice_index, slice_index_or}
-use Rattle.ir_model.specs.Topology.{Topology, node_count}
+use Rattle.ir_model.specs.Topology.{Topology, node_count, ports_of}
 use Rattle.ir_model.specs.Walk.{IsDistance}
 use Rattle.ir_tables.specs.FromNode.{AreFrom}
 use Rattle.ir_bounds.specs.Bounds.{held_lists}
+use Rattle.ir_bounds.specs.Words.{IsWordBy}
 use Rattle.ir_bounds.specs.declared.landmarks.Owners.{Owners}
 
 -- the slot at each of the first m landmarks is a place of it
@@ -26,3 +27,8 @@ pub record AreAround (net : Topology) (owners : Owners) : Type 0 where
 pub record AreDistancesIn (net : Topology) (landmarks : List ℕ) (u m : ℕ) (around : List ℕ) : Type 0 where
   pub every : length around ≡ node_count net
   pub each : (i : ℕ) → i < m → IsDistance net u (slice_index landmarks i) (slice_index around (slice_index landmarks i))
+
+-- at each of the first m landmarks the word of the ports of u that lead as near to it as u is
+pub record AreBlockWords (net : Topology) (owners : Owners) (u m : ℕ) (blocks : List ℕ) : Type 0 where
+  pub every : length blocks ≡ node_count net
+  pub each : (i : ℕ) → i < m → (away : List ℕ) × AreFrom net (slice_index owners.landmarks.items i) away × IsWordBy net away 0 (slice_index away u) u (length (ports_of net u)) (slice_index blocks (slice_index owners.landmarks.items i))

@@ -8,3 +8,4 @@ pub mod Detours
 -- what bodies use
 pub mod Blocks
 pub mod Entries
+pub mod Words

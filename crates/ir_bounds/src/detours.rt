@@ -4,17 +4,19 @@ ghost use Rattle.std.specs.Prelude.{◌≡◌, ◌<◌, ◌≤◌, ℕ, List, If
 ghost use Rattle.ir_model.specs.{Topology.node_count, Walk.IsConnected, Plan.AreLabels};
 ghost use Rattle.ir_model.specs.Landmark.{IsLandmarkBound};
 ghost use Rattle.ir_numbering.specs.Numbering.{IsListing};
-ghost use Rattle.ir_bounds.specs.{Plans.AreBlockLabels, Rows.IsRowWithin};
+ghost use Rattle.ir_bounds.specs.{Plans.AreBlockLabels, Rows.{IsRowWithin, MayTakePort}};
+ghost use Rattle.ir_model.proofs.Steps.{AreLongest};
 ghost use Rattle.ir_bounds.specs.Detours.{AreChosenOwners, AreDetourBounds, AreHeldBounds};
 ghost use Rattle.ir_bounds.specs.Bounds.{AreBoundsFrom, AreOwners, held_lists};
-ghost use Rattle.ir_bounds.specs.Near.{AreNearBatches, entry_node, part_end};
+ghost use Rattle.ir_bounds.specs.Near.{AreNearAt, AreNearBatches, entry_node, part_end};
 ghost use Rattle.ir_bounds.specs.Entries.{ArePut};
 
 use crate::landmarks::Owners;
 use crate::near::{BATCH, begin_after, entry, near_list};
 use crate::order::{block_order, most_linked};
 use crate::rows::runs_within;
-use ir_compile::{canonical_row, row_of_longest};
+use crate::words::word_runs;
+use ir_compile::{WORD_PORTS, canonical_row, row_of_longest};
 use ir_lookup::Row;
 use ir_model::Detour;
 use ir_numbering::Numbering;
@@ -81,10 +83,19 @@ impl LandmarkBounds {
     {
         topology.invariant();
         let mut row = self.owners.ways_round(alloc, topology, u)?;
-        let list = self.near[u as usize / BATCH].as_slice();
-        let begin = begin_after(list, u as usize % BATCH);
+        let (list, begin) = self.part(topology, u);
         put_bounds(list, begin, row.as_mut_slice());
         Ok(row)
+    }
+
+    // The list that has the part of a node, and where the part begins.
+    pub fn part(&self, topology: &Topology, u: u16) -> (&[u16], usize)
+        requires node { u < node_count topology.now }
+        requires bounds { AreHeldBounds topology.now self.now }
+        ensures { AreNearAt topology.now self.now.owners.landmarks.items self.now.stretch u result.0.now result.1 }
+    {
+        let list = self.near[u as usize / BATCH].as_slice();
+        (list, begin_after(list, u as usize % BATCH))
     }
 
     /// The row of a node with the fewest intervals over all ports that lead within the bounds. It is refused for memory
@@ -105,13 +116,37 @@ impl LandmarkBounds {
             (slice_index numbering.now.labels u) row) }
     {
         let nodes = topology.nodes() as u16;
-        let (counts, ports) = runs_within(alloc, topology, numbering, self, u)?;
+        let (counts, ports) = runs_by(alloc, topology, numbering, self, u)?;
         let own = numbering.label_of(u);
         if nodes == 1 {
             return canonical_row(alloc, nodes, own, &[None]);
         }
         row_of_longest(alloc, nodes, own, counts.as_slice(), ports.as_slice())
     }
+}
+
+// For each label how many labels the longest run of one port from it on has, and the least such port.
+fn runs_by(
+    alloc: Global,
+    topology: &Topology,
+    numbering: &Numbering,
+    held: &LandmarkBounds,
+    u: u16,
+) -> Result<(Vec<u16>, Vec<u16>), AllocError>
+    requires labels { AreLabels (node_count topology.now) numbering.now.order numbering.now.labels }
+    requires connected { IsConnected topology.now }
+    requires node { u < node_count topology.now }
+    requires bounds { AreHeldBounds topology.now held.now }
+    ensures counts { IfOk result (λ made. length made.0.items ≡ node_count topology.now) }
+    ensures ports { IfOk result (λ made. length made.1.items ≡ node_count topology.now) }
+    ensures longest { IfOk result (λ made. AreLongest (node_count topology.now) (slice_index numbering.now.labels u)
+        (MayTakePort topology.now (IsLandmarkBound topology.now held.now.owners.landmarks.items held.now.stretch)
+        numbering.now.order (slice_index numbering.now.labels u)) made.0.items made.1.items) }
+{
+    if topology.degree(u) <= WORD_PORTS {
+        return word_runs(alloc, topology, numbering, held, u);
+    }
+    runs_within(alloc, topology, numbering, held, u)
 }
 
 // The lists of all batches.

@@ -8,6 +8,7 @@ mod near;
 mod order;
 mod rows;
 mod trees;
+mod words;
 
 pub use detours::{LandmarkBounds, block_labels, chosen_owners};
 pub use landmarks::Owners;

@@ -87,7 +87,7 @@ AreTheirWords choices = (texts choices.formats.now ≡ codes "adjlist" ∷ codes
     × (texts choices.numberings.now ≡ codes "depth-first" ∷ codes "tour" ∷ codes "keep" ∷ codes "keep,tour" ∷ codes "keep,depth-first" ∷ [])
     × (texts choices.keepings.now ≡ codes "depth-first" ∷ codes "tour" ∷ codes "keep" ∷ [])
     × (texts choices.parts.now ≡ codes "table" ∷ [])
-    × (texts choices.eaches.now ≡ codes "links" ∷ [])
+    × (texts choices.eaches.now ≡ codes "links" ∷ codes "nodes" ∷ [])
 
 -- the flag of output as JSON
 abbrev pub json : Rule

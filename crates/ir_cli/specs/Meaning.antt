@@ -92,6 +92,10 @@ pub record IsDetour (detour : DetourChoice) (rows : List Row) : Type 0 where
 abbrev pub is_set : Text → List Row → Bool
 is_set name rows = option_map_or (λ word. bytes_eq word (codes "true")) (first_of name rows) false
 
+-- nodes fail in place of links
+abbrev pub is_by_node : List Row → Bool
+is_by_node rows = option_map_or (λ word. bytes_eq word (codes "nodes")) (first_of (codes "each") rows) false
+
 -- the files, in order
 abbrev pub files_in : List Row → List Text
 files_in rows = option_to_list (first_of (codes "topology") rows) ++ option_to_list (first_of (codes "new") rows)
@@ -178,6 +182,7 @@ pub record Means (name : Text) (rows : List Row) (words : Words) : Type 0 where
   pub svg : words.svg ≡ is_set (codes "svg") rows
   pub second : IsSecond (second_word rows) (first_of (codes "root") rows) words.second
   pub each : words.each ≡ is_some (first_of (codes "each") rows)
+  pub by_node : words.by_node ≡ is_by_node rows
   pub disjoint : words.disjoint ≡ is_set (codes "disjoint") rows
   pub order_alone : words.order_alone ≡ is_set (codes "order") rows
   pub nodes : AreNodes (nodes_word rows) words.nodes

@@ -1,5 +1,5 @@
 -- What a topology text and the name of a root come to, before anything is opened over them.
-use Rattle.std.specs.Prelude.{◌≡◌, ℕ, ◌==◌, if◌then◌else◌, List, [], length, Option, None, Some, MatchOption, bytes_eq, position, string_bytes}
+use Rattle.std.specs.Prelude.{◌≡◌, ℕ, ◌==◌, Bool, true, false, if◌then◌else◌, List, [], length, Option, None, Some, MatchOption, bytes_eq, position, string_bytes}
 use Rattle.std.specs.Option.{option_map}
 use Rattle.ir_model.specs.declared.Fault.{Fault}
 use Rattle.ir_model.specs.Graph.{Name, Adjacency, names}

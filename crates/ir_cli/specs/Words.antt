@@ -120,7 +120,7 @@ takes_detour words = not words.detour.is_said || may_go_round words.sub words.ki
 abbrev pub takes_nodes : Words → Bool
 takes_nodes words = not (words.order_alone && is_some words.nodes)
 
--- figures without each link are printed beside no second plan
+-- figures without each link or node are printed beside no second plan
 abbrev pub takes_each : Words → Bool
 takes_each words = not (words.each && is_some words.second)
 

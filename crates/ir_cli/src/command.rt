@@ -26,7 +26,7 @@ static KEEPINGS: [&str; 3] = ["depth-first", "tour", "keep"];
 
 static PARTS: [&str; 1] = ["table"];
 
-static EACHES: [&str; 1] = ["links"];
+static EACHES: [&str; 2] = ["links", "nodes"];
 
 /// The subcommands, as help lists them.
 static SUBCOMMANDS: [Sub; 12] = [

@@ -168,11 +168,12 @@ Printed lines:
   NODE WAS LABEL [- START] [+ START NEXT]...       What a node changes: its label before and now, and by ascending
                                                    starts those that go, and those that come or get another neighbour
 
-Example, for a ring of the nodes a, b, c and d, of which the link from d to a goes:
+Example, for the lines 'a b', 'b c', 'c d' and 'd a' of OLD, of which NEW has the first three:
   $ ", $name, " diff --numbering keep OLD NEW
-  diff shortest shortest 4 2 0 2 0
+  diff shortest shortest 4 3 0 3 2
   a 0 0 - 3
-  d 3 3 - 0
+  b 1 1 + 0 a - 3
+  d 3 3 + 0 c - 1
 
 With keep the new plan has the labels of the old one, so that few nodes change. A node builds its new row beside the
 old one, never in place."),

@@ -171,7 +171,7 @@ const WITH: Taken = taken!("with", None, Accepts::Word("KIND[,ROOT]"), Need::Fre
     => "Also report whether links can wait for one another in a ring if packets of this plan and of a second one travel (default ROOT: that of --root)");
 
 const EACH: Taken = taken!("each", None, Accepts::WordOf("WHAT", Choice::Each), Need::Free
-    => "Print the figures on one line, and one line with those of the plan without each link");
+    => "Print the figures on one line, and one line with those of the plan without each link or node");
 
 const DRAWN_FROM: Taken = taken!("from", None, Accepts::Word("A"), Need::Free
     => "Draw the path from node A in bold (with --to)");

@@ -4,7 +4,7 @@ ghost use Rattle.std.specs.Prelude.{◌≡◌, ◌≢◌, ◌<◌, ◌++◌, ℕ
 ghost use Rattle.clap.specs.Words.{first_of, found_of, rows_of};
 ghost use Rattle.ir_cli.specs.declared.choices.DetourChoice.{DetourChoice};
 ghost use Rattle.ir_cli.specs.declared.kinds.KindChoice.{KindChoice};
-ghost use Rattle.ir_cli.specs.Meaning.{IsDetour, IsFormat, IsKindWord, IsNumber, IsNumberElse, IsNumbering, IsSecond, files_in, is_set, keeps, numbering_word, second_kind, second_root, second_word};
+ghost use Rattle.ir_cli.specs.Meaning.{is_by_node, IsDetour, IsFormat, IsKindWord, IsNumber, IsNumberElse, IsNumbering, IsSecond, files_in, is_set, keeps, numbering_word, second_kind, second_root, second_word};
 ghost use Rattle.ir_cli.specs.Meaning.{AreNodes, IsDecimal, IsSpan, nodes_word, span_first, span_last};
 ghost use Rattle.ir_cli.specs.declared.words.Span.{Span};
 ghost use Rattle.ir_cli.specs.CommandLine.{sub_word};
@@ -55,6 +55,16 @@ pub fn is_set(found: &ArgMatches<'_>, name: &str) -> bool
 {
     match typed(found, name) {
         Some(word) => word == "true",
+        None => false,
+    }
+}
+
+/// Whether nodes are to fail in place of links.
+pub fn is_by_node(found: &ArgMatches<'_>) -> bool
+    ensures { result ≡ is_by_node (rows_of (found_of found.now)) }
+{
+    match typed(found, "each") {
+        Some(word) => word == "nodes",
         None => false,
     }
 }

@@ -17,7 +17,7 @@ use crate::command::route_command;
 use crate::faults::{asked_fault, fault_of, fault_text};
 use crate::help::Called;
 use crate::kinds::KindChoice;
-use crate::typed::{Chosen, choose, files_of, is_given, is_set, numbering_of, second_of, word_of};
+use crate::typed::{Chosen, choose, files_of, is_by_node, is_given, is_set, numbering_of, second_of, word_of};
 use clap::ArgMatches;
 use clap::error::ErrorKind;
 use std::alloc::{AllocError, AllocFailed, Global};
@@ -118,9 +118,11 @@ pub struct Words {
     pub svg: bool,
     /// The plan beside the first, for `stats`; its root is by default that of the first.
     pub second: Option<Second>,
-    /// Whether the figures without each link are printed in place of those of the plan alone, never beside a second
+    /// Whether the figures without each link or node are printed in place of those of the plan alone, never beside a second
     /// plan, for `stats`.
     pub each: bool,
+    /// Whether nodes fail in place of links, with `each`.
+    pub by_node: bool,
     /// Whether no number is to match two lines of a node, for `prefixes`.
     pub disjoint: bool,
     /// Whether the order of the labels is to be in place of the rows, for `plan`.
@@ -309,6 +311,7 @@ fn words_of(alloc: Global, all: Chosen, found: &ArgMatches<'_>) -> Result<Words,
         svg: is_set(found, "svg"),
         second,
         each: is_given(found, "each"),
+        by_node: is_by_node(found),
         disjoint: is_set(found, "disjoint"),
         order_alone: is_set(found, "order"),
         nodes: all.nodes,

@@ -9,7 +9,7 @@ use Rattle.ir_model.specs.Topology.{Topology, IsTopology, port_at, restrict}
 use Rattle.ir_model.proofs.Restrict.{port_at-restrict}
 use Rattle.ir_plan.specs.declared.tour.LabelOrder.{LabelOrder}
 use Rattle.ir_core.specs.declared.command.Command.{Command}
-use Rattle.ir_core.specs.declared.command.Command.TheVariants.{Inject, Install, Retire, Down, Up, Avoid, Heed, Drain}
+use Rattle.ir_core.specs.declared.command.Command.TheVariants.{Inject, Install, Renumber, Retire, Down, Up, Avoid, Heed, Drain}
 use Rattle.ir_core.specs.declared.packet.Fate.{Fate}
 use Rattle.ir_core.specs.declared.packet.Fate.TheVariants as fate
 use Rattle.ir_core.specs.Record.{Record, present}
@@ -33,10 +33,11 @@ other_epoch a b x y false e lt = refl
 later_epoch : (last : ℕ) (s : Stamp) → last < s.epoch → epoch_after last (Ok (Some s)) ≡ s.epoch
 later_epoch last s lt = ap (λ (c : Bool). cond c s.epoch last) (lt-ltb last s.epoch lt)
 
-module _ (labels : LabelOrder) (net : Topology) (first : LinkMarks) where
+module _ (labels : LabelOrder) (keeps : Bool) (net : Topology) (first : LinkMarks) where
   -- an install that was accepted, of a command that may be no other
-  installed : (c : Command) (m : LinkMarks) (last : ℕ) (s : Stamp) → IsAsked labels net (used_in m) last c (Ok (Some s)) → (last < s.epoch) × ((knows s).topology ≡ restrict (used_in m) net) × (marks_after m c (Ok (Some s)) ≡ m)
-  installed (Install kind root) m last s asked = (asked.0, asked.1.over, refl)
+  installed : (c : Command) (m : LinkMarks) (last : ℕ) (s : Stamp) → IsAsked labels keeps net m last c (Ok (Some s)) → (last < s.epoch) × ((knows s).topology ≡ restrict (used_in m) net)
+  installed (Install kind root) m last s asked = (asked.0, asked.1.over)
+  installed (Renumber kind root) m last s asked = (asked.0, asked.1.over)
   installed (Inject source dest) m last s asked = absurd (cc asked)
   installed (Retire floor) m last s asked = absurd (cc asked)
   installed (Down l) m last s asked = absurd (cc asked)
@@ -46,7 +47,7 @@ module _ (labels : LabelOrder) (net : Topology) (first : LinkMarks) where
   installed Drain m last s asked = absurd (cc asked)
 
   -- a plan that a command installed is over the links that were used then
-  over_used : (commands : List Command) (answers : List CommandAnswer) (m : LinkMarks) (last : ℕ) → length answers ≡ length commands → AreAsked labels net m last commands answers →
+  over_used : (commands : List Command) (answers : List CommandAnswer) (m : LinkMarks) (last : ℕ) → length answers ≡ length commands → AreAsked labels keeps net m last commands answers →
       (k : ℕ) (x : Planned) → slice_get (planned (stamps_in answers)) k ≡ Some x → (last < x.epoch) × (x.plan.topology ≡ restrict (used_in (marks_at x.epoch first m commands answers)) net)
   over_used [] [] m last same asked k x at = absurd (none-some x at)
   over_used [] (a ∷ answers) m last same asked k x at = absurd (omega (arith, same))
@@ -68,7 +69,7 @@ module _ (labels : LabelOrder) (net : Topology) (first : LinkMarks) where
       (omega (arith, now.0, lt), rest.1 ∙ ap (λ (up : List Bool). restrict up net) (sym marks))
 
   -- the opening's epoch is no command's
-  opened_by : (commands : List Command) (answers : List CommandAnswer) (m : LinkMarks) (last : ℕ) → 1 ≤ last → AreAsked labels net m last commands answers → marks_at 1 first m commands answers ≡ first
+  opened_by : (commands : List Command) (answers : List CommandAnswer) (m : LinkMarks) (last : ℕ) → 1 ≤ last → AreAsked labels keeps net m last commands answers → marks_at 1 first m commands answers ≡ first
   opened_by [] answers m last le asked = refl
   opened_by (c ∷ commands) [] m last le asked = refl
   opened_by (c ∷ commands) (Ok None ∷ answers) m last le asked = opened_by commands answers (marks_after m c (Ok None)) last le asked.1
@@ -83,15 +84,15 @@ module _ (labels : LabelOrder) (net : Topology) (first : LinkMarks) where
       not_first e a b false is lt = refl
 
 -- all links are used at first
-all_there : (n l : ℕ) → l < n → slice_index_or (used_in (all_marked n)) l false ≡ true
-all_there zero l lt = absurd (omega (arith, lt))
-all_there (suc n) zero lt = refl
-all_there (suc n) (suc l) lt = all_there n l (omega (arith, lt))
+all_there : (n l : ℕ) (order : List ℕ) → l < n → slice_index_or (used_in (all_marked n order)) l false ≡ true
+all_there zero l order lt = absurd (omega (arith, lt))
+all_there (suc n) zero order lt = refl
+all_there (suc n) (suc l) order lt = all_there n l order (omega (arith, lt))
 
 module _ (net : Net) (commands : List Command) (answers : List CommandAnswer) (same : length answers ≡ length commands)
-    (asked : AreAsked net.labels net.topology (all_marked (length net.topology.links)) 1 commands answers) where
+    (asked : AreAsked net.labels net.keeps net.topology (all_marked (length net.topology.links) (first_plan net).order) 1 commands answers) where
   abbrev at_first : LinkMarks
-  at_first = all_marked (length net.topology.links)
+  at_first = all_marked (length net.topology.links) (first_plan net).order
 
   abbrev used_at : ℕ → ℕ → Type 0
   used_at epoch l = slice_index_or (used_in (marks_at epoch at_first at_first commands answers)) l false ≡ true
@@ -104,11 +105,11 @@ module _ (net : Net) (commands : List Command) (answers : List CommandAnswer) (s
       let link = ok.ports u p hop port in
       let within = slice_get_within x.plan.topology.links hop.link link.0 link.1 in
       let links : length x.plan.topology.links ≡ length net.topology.links = ap (λ (x : Planned). length x.plan.topology.links) (sym is) ∙ ap (λ (g : Topology). length g.links) net.opened.topology in
-      let none = opened_by net.labels net.topology at_first commands answers at_first 1 (omega arith) asked in
+      let none = opened_by net.labels net.keeps net.topology at_first commands answers at_first 1 (omega arith) asked in
       let marks : marks_at x.epoch at_first at_first commands answers ≡ at_first = ap (λ (x : Planned). marks_at x.epoch at_first at_first commands answers) (sym is) ∙ none in
-      ap (λ (m : LinkMarks). slice_index_or (used_in m) hop.link false) marks ∙ all_there (length net.topology.links) hop.link (omega (arith, within, links))
+      ap (λ (m : LinkMarks). slice_index_or (used_in m) hop.link false) marks ∙ all_there (length net.topology.links) hop.link (first_plan net).order (omega (arith, within, links))
   ports_used (suc k) x at ok u p hop port =
-      let over = over_used net.labels net.topology at_first commands answers at_first 1 same asked k x at in
+      let over = over_used net.labels net.keeps net.topology at_first commands answers at_first 1 same asked k x at in
       (port_at-restrict (used_in (marks_at x.epoch at_first at_first commands answers)) net.topology u p hop (ap (λ (g : Topology). port_at g u p) (sym over.1) ∙ port)).2
 
   dropped : (g : Record) (l : ℕ) → IsSoundBy (IsPlanIn (record { epoch = 1; plan = first_plan net } ∷ planned (stamps_in answers))) g → g.fate ≡ fate.Down l → used_at g.epoch l

@@ -4,6 +4,7 @@ use Rattle.ir_core.specs.declared.command.Command.{Command}
 use Rattle.ir_core.specs.declared.packet.Fate.TheVariants.{Down}
 use Rattle.ir_core.specs.Record.{Record, stamp_of}
 use Rattle.ir_control.specs.declared.net.Net.{Net}
+use Rattle.ir_control.specs.Nets.{first_plan}
 use Rattle.ir_control.specs.Answers.{CommandAnswer}
 use Rattle.ir_control.specs.Planned.{LinkMarks, all_marked, used_in, marks_after}
 
@@ -24,6 +25,6 @@ marks_at epoch first marks (c ∷ commands) (answer ∷ answers) =
 -- its present epoch.
 abbrev pub AreLiveDropsForUsedLinks : Net → List Command → List CommandAnswer → List Record → Type 0
 AreLiveDropsForUsedLinks net commands answers records =
-    let first = all_marked (length net.topology.links) in
+    let first = all_marked (length net.topology.links) (first_plan net).order in
     (k l : ℕ) (r : Record) → slice_get records k ≡ Some r → r.fate ≡ Down l
     → slice_index_or (used_in (marks_at (stamp_of r) first first commands answers)) l false ≡ true

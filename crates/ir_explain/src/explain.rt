@@ -1,6 +1,7 @@
 //! The explanation of a run.
 
 use crate::MOST_EXPLAINED;
+use crate::diffing::{push_gone, push_new, push_new_node, push_new_opening};
 use crate::finding::{push_beside, push_finding};
 use crate::notes::push_note;
 use crate::numbering::push_numbering;
@@ -8,7 +9,7 @@ use crate::opening::push_opening;
 use crate::refusal::push_refusal;
 use crate::script::push_script;
 use crate::sentence::{Pushed, begin};
-use crate::texts::{Given, GivenTexts, RunTexts, Trouble, graph_of, texts_of};
+use crate::texts::{Given, GivenTexts, RunTexts, Trouble, graph_of, new_graph_of, texts_of};
 use crate::topology::push_topology;
 use crate::unlearnt::push_unlearnt;
 use ir_cli::{Notice, RunOutcome, Sub, Told, Words};
@@ -66,6 +67,10 @@ fn push_noticed(text: &mut String, run: &RunTexts<'_>, notice: Notice) -> Pushed
             )
         }
         Notice::Topology(error) => push_topology(text, run, error),
+        Notice::New(error) => push_new(text, run, error),
+        Notice::NewNode(u) => push_new_node(text, run, u),
+        Notice::Gone(u) => push_gone(text, run, u),
+        Notice::NewOpening(error) => push_new_opening(text, run, error),
         Notice::Script(error) => push_script(text, run, error),
         Notice::Numbering(fault) => push_numbering(text, run, fault),
         Notice::Opening(error) => push_opening(text, run, error),
@@ -136,10 +141,12 @@ fn explain_over(
     is_kept: bool,
 ) -> Pushed {
     let alloc = *text.allocator();
-    let graph = graph_of(alloc, words, &texts.topology)?;
+    let graph = graph_of(alloc, words.format, &texts.topology)?;
+    let new_graph = new_graph_of(alloc, words, &texts.new)?;
     let run = RunTexts {
         alloc,
         graph: &graph,
+        new_graph: &new_graph,
         words,
         texts: *texts,
     };
@@ -162,7 +169,10 @@ fn push_explanation(
     if has_steps || has_fault || !is_kept || outcome.found.is_some() {
         explain_over(text, words, texts, outcome, is_kept)?;
     }
-    push_note(alloc, text, words, &texts.topology)?;
+    push_note(alloc, text, words.format, &texts.topology)?;
+    if words.sub == Sub::Diff {
+        push_note(alloc, text, words.new_format, &texts.new)?;
+    }
     if words.sub == Sub::Sim && !has_fault && (is_kept || has_steps) {
         return push_unlearnt(alloc, text, &texts.script);
     }

@@ -6,6 +6,7 @@
 #![tactic(auto)]
 
 mod departing;
+mod diffing;
 mod explain;
 mod finding;
 mod limits;

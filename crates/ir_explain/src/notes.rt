@@ -3,7 +3,7 @@
 use crate::seen::{Seen, seen_of};
 use crate::sentence::{FileName, Pushed, begin};
 use crate::texts::{GivenText, graph_of};
-use ir_cli::{Format, Words};
+use ir_cli::Format;
 use std::alloc::{AllocError, Global};
 
 /// The most bytes at the front of a text in which a tag is looked for.
@@ -108,24 +108,24 @@ fn push_likeness(text: &mut String, file: &str, name: &str, word: Option<&str>) 
 /// How many nodes and links are read of a topology; none where the text has a fault.
 fn counts_of(
     alloc: Global,
-    words: &Words,
+    format: Format,
     part: &GivenText<'_>,
 ) -> Result<(usize, usize), AllocError> {
-    let graph = graph_of(alloc, words, part)?;
+    let graph = graph_of(alloc, format, part)?;
     Ok((graph.number_of_nodes(), graph.number_of_edges()))
 }
 
 /// Says so where a topology looks like one of another format, and how many nodes and links were read.
-pub fn push_note(alloc: Global, text: &mut String, words: &Words, part: &GivenText<'_>) -> Pushed {
+pub fn push_note(alloc: Global, text: &mut String, format: Format, part: &GivenText<'_>) -> Pushed {
     let (name, word) = match convertible(part.bytes) {
-        "" => likeness(seen_of(alloc, part.bytes)?, words.format),
+        "" => likeness(seen_of(alloc, part.bytes)?, format),
         name => (name, Some("")),
     };
     if name.is_empty() {
         return Ok(());
     }
     push_likeness(text, part.file, name, word)?;
-    let (nodes, links) = counts_of(alloc, words, part)?;
+    let (nodes, links) = counts_of(alloc, format, part)?;
     if nodes == 0 {
         return text.push_str("\n");
     }

@@ -1,7 +1,7 @@
 //! The texts of a run, and the files that they are in.
 
 use crate::lines::line_ends;
-use ir_cli::{Source, Sub, Words, cut, read_topology};
+use ir_cli::{Format, Source, Sub, Words, cut, read_topology};
 use ir_graph::Graph;
 use ir_model::Fault;
 use std::alloc::{AllocError, Global};
@@ -37,10 +37,12 @@ pub struct GivenText<'a> {
     pub trouble: Trouble,
 }
 
-/// The texts of a run. One that the run does not have is empty.
+/// The texts of a run; the second one is both the new topology's and the script's. One that the run does not have is
+/// empty.
 #[derive(Clone, Copy)]
 pub struct GivenTexts<'a> {
     pub topology: GivenText<'a>,
+    pub new: GivenText<'a>,
     pub script: GivenText<'a>,
     pub trace: GivenText<'a>,
     pub numbering: GivenText<'a>,
@@ -51,6 +53,7 @@ impl<'a> GivenTexts<'a> {
     pub fn of(&self, source: Source) -> &GivenText<'a> {
         match source {
             Source::Input | Source::Topology => &self.topology,
+            Source::New => &self.new,
             Source::Script => &self.script,
             Source::Trace => &self.trace,
             Source::Numbering => &self.numbering,
@@ -90,7 +93,7 @@ pub fn texts_of<'a>(words: &'a Words, given: &[Given<'a>]) -> GivenTexts<'a> {
     let first = whole(given, 0, words.file(0));
     let numbering = whole(given, 1, words.order_file());
     let (topology, script, trace) = match words.sub {
-        Sub::Sim | Sub::Live if words.is_one_input() => {
+        Sub::Diff | Sub::Sim | Sub::Live if words.is_one_input() => {
             let (topology, script) = halves(first);
             (topology, script, whole(given, 2, "-"))
         }
@@ -107,26 +110,42 @@ pub fn texts_of<'a>(words: &'a Words, given: &[Given<'a>]) -> GivenTexts<'a> {
     };
     GivenTexts {
         topology,
+        new: script,
         script,
         trace,
         numbering,
     }
 }
 
-/// A run that is explained: where memory is, the graph of its topology, what its words ask for, and its texts.
+/// A run that is explained: where memory is, the graphs of its topology and of its new one, what its words ask for, and
+/// its texts.
 #[derive(Clone, Copy)]
 pub struct RunTexts<'a> {
     pub alloc: Global,
     pub graph: &'a Graph,
+    pub new_graph: &'a Graph,
     pub words: &'a Words,
     pub texts: GivenTexts<'a>,
 }
 
 /// The graph of a topology; one with no node where the text has a fault.
-pub fn graph_of(alloc: Global, words: &Words, part: &GivenText<'_>) -> Result<Graph, AllocError> {
-    match read_topology(alloc, words.format, part.bytes) {
+pub fn graph_of(alloc: Global, format: Format, part: &GivenText<'_>) -> Result<Graph, AllocError> {
+    match read_topology(alloc, format, part.bytes) {
         Ok(graph) => Ok(graph),
         Err(error) if error.kind == Fault::NoMemory => Err(AllocError),
         Err(_) => Ok(Graph::new(alloc)),
+    }
+}
+
+/// The graph of a new topology; one with no node where the run has none, or the text has a fault.
+pub fn new_graph_of(
+    alloc: Global,
+    words: &Words,
+    part: &GivenText<'_>,
+) -> Result<Graph, AllocError> {
+    if words.sub == Sub::Diff {
+        graph_of(alloc, words.new_format, part)
+    } else {
+        Ok(Graph::new(alloc))
     }
 }

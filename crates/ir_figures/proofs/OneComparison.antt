@@ -9,6 +9,7 @@ use Rattle.ir_model.specs.Plan.{Plan, table_port}
 use Rattle.ir_model.proofs.Walks.{port_facts}
 use Rattle.ir_plan.specs.declared.tour.LabelOrder.{LabelOrder}
 use Rattle.ir_plan.specs.declared.tour.LabelOrder.TheVariants.{DepthFirst, Tour}
+use Rattle.ir_plan.specs.Building.{FromRoot}
 use Rattle.ir_plan.proofs.Standing.{same_walk}
 use Rattle.ir_trace.specs.Judged.{RoutesAs}
 use Rattle.ir_trace.proofs.Routing.{routes_as}
@@ -101,7 +102,7 @@ row_along p q ok kind alike order line row =
 -- a network has one row of each kind and order of labels from a root
 one_row_by : (net : Topology) (root : ℕ) (kind : Kind) (order : LabelOrder) (line other : List ℕ) → IsRowBy net root kind order line → IsRowBy net root kind order other → line ≡ other
 one_row_by net root kind order line other (p, a, x) (q, b, y) =
-    one_row order p line other x (row_along p q a.valid.topology (b.of_kind ∙ sym a.of_kind) (routes_as order kind root net p q a b) order other y)
+    one_row order p line other x (row_along p q a.valid.topology (b.of_kind ∙ sym a.of_kind) (routes_as (FromRoot order root) kind net p q a b) order other y)
 
 both_same : (net : Topology) (root : ℕ) (kind : Kind) (lines others : List ℕ) → AreBothRows net root kind lines → AreBothRows net root kind others → lines ≡ others
 both_same net root kind lines others x y =

@@ -20,13 +20,13 @@ pub record AreExits (topology : Topology) (count : ℕ) (first nodes : List ℕ)
   pub below : (c : ℕ) → c < length nodes → c < exits_before topology (slice_index nodes c + 1)
 
 -- of each node the place in its row of the interval that has the label a
-pub record ArePlaces (plan : Plan) (a : ℕ) (places : List ℕ) : Type 0 where
+pub record ArePlacesAt (plan : Plan) (a : ℕ) (places : List ℕ) : Type 0 where
   pub every : length places ≡ node_count plan.topology
   pub within : (u : ℕ) → u < node_count plan.topology → slice_index places u ≤ length (row_in plan u)
   pub each : (u : ℕ) → u < node_count plan.topology → 1 < node_count plan.topology → IsPlaceOf (labels (row_in plan u)) a (slice_index places u)
 
 -- the ports of all nodes to the label a
-pub record IsColumn (plan : Plan) (a : ℕ) (ports : List (Option ℕ)) : Type 0 where
+pub record ArePortsTo (plan : Plan) (a : ℕ) (ports : List (Option ℕ)) : Type 0 where
   pub every : length ports ≡ node_count plan.topology
   pub each : (u : ℕ) → u < node_count plan.topology → slice_index_or ports u None ≡ table_port plan u (node_in plan a)
 

@@ -2,7 +2,7 @@
 ghost use Rattle.std.specs.Prelude.{◌≡◌, ◌+◌, ◌<◌, ◌≤◌, true, false, None, Some, IfOk, length, slice_index};
 ghost use Rattle.ir_model.specs.Row.{IsPlaceOf, labels, start_ports};
 ghost use Rattle.ir_model.specs.Topology.{node_count};
-ghost use Rattle.ir_figures.specs.Exits.{ArePlaces, IsColumn};
+ghost use Rattle.ir_figures.specs.Exits.{ArePlacesAt, ArePortsTo};
 
 use ir_lookup::Row;
 use ir_plan::Plan;
@@ -41,7 +41,7 @@ fn next_place(row: &Row, a: u16, place: usize) -> usize
 
 /// Of each node the place in its row of the interval that has the label 0.
 pub fn first_places(alloc: Global, plan: &Plan) -> Result<Vec<usize>, AllocError>
-    ensures { IfOk result (λ places. ArePlaces plan.now 0 places.items) }
+    ensures { IfOk result (λ places. ArePlacesAt plan.now 0 places.items) }
 {
     plan.invariant();
     let mut places = Vec::with_capacity(alloc, plan.nodes())?;
@@ -67,10 +67,10 @@ fn port_in(row: &Row, place: usize, is_own: bool) -> Option<u16>
 /// Reads the ports of all nodes to a label, and goes on to the places of the next one.
 pub fn read_column(plan: &Plan, a: u16, places: &mut Vec<usize>, column: &mut Vec<Option<u16>>)
     requires label { a < node_count plan.now.topology }
-    requires places { ArePlaces plan.now a places.old.items }
+    requires places { ArePlacesAt plan.now a places.old.items }
     requires every { length column.old.items ≡ node_count plan.now.topology }
-    ensures column { IsColumn plan.now a column.new.items }
-    ensures places { ArePlaces plan.now (a + 1) places.new.items }
+    ensures column { ArePortsTo plan.now a column.new.items }
+    ensures places { ArePlacesAt plan.now (a + 1) places.new.items }
 {
     let own = plan.node_of(a);
     for u in 0..plan.nodes() {

@@ -3,7 +3,7 @@ ghost use Rattle.std.specs.Prelude.{◌≡◌, ◌+◌, ◌<◌, ℕ, List, true
 ghost use Rattle.ir_model.specs.{Topology.node_count, Plan.IsPlan};
 ghost use Rattle.ir_figures.specs.Arcs.{marks_of, width_of, IsDigraph, IsAcyclic, IsRing};
 ghost use Rattle.ir_figures.specs.Waits.{Waits, WaitsInEither, IsWithoutRing, IsWaitingRing};
-ghost use Rattle.ir_figures.specs.Exits.{exits_before, AreExits, AreNextExits, IsColumn, WaitsSoFar, AreLinks, AreMarkedAlso, AreRowsMarkedAlso, AreLeftBy};
+ghost use Rattle.ir_figures.specs.Exits.{exits_before, AreExits, AreNextExits, ArePortsTo, WaitsSoFar, AreLinks, AreMarkedAlso, AreRowsMarkedAlso, AreLeftBy};
 
 use crate::column::{first_places, read_column};
 use crate::search::ring_of;
@@ -111,7 +111,7 @@ fn mark_way(plan: &Plan, first: &[u32], column: &[Option<u16>], a: u16, u: u16, 
     requires plan { IsPlan plan.now }
     requires label { a < node_count plan.now.topology }
     requires node { u < node_count plan.now.topology }
-    requires column { IsColumn plan.now a column.now }
+    requires column { ArePortsTo plan.now a column.now }
     requires first { (nodes : List ℕ) × AreExits plan.now.topology (node_count plan.now.topology) first.now nodes }
     requires links { AreLinks plan.now.topology (WaitsSoFar plan.now a u) links.old.begins.items
         (marks_of links.old.marks.items) (exits_before plan.now.topology (node_count plan.now.topology)) }
@@ -131,7 +131,7 @@ fn mark_way(plan: &Plan, first: &[u32], column: &[Option<u16>], a: u16, u: u16, 
 fn mark_column(plan: &Plan, first: &[u32], column: &[Option<u16>], a: u16, links: &mut Links)
     requires plan { IsPlan plan.now }
     requires label { a < node_count plan.now.topology }
-    requires column { IsColumn plan.now a column.now }
+    requires column { ArePortsTo plan.now a column.now }
     requires first { (nodes : List ℕ) × AreExits plan.now.topology (node_count plan.now.topology) first.now nodes }
     requires links { AreLinks plan.now.topology (WaitsSoFar plan.now a 0) links.old.begins.items
         (marks_of links.old.marks.items) (exits_before plan.now.topology (node_count plan.now.topology)) }

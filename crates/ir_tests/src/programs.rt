@@ -239,3 +239,20 @@ fn figures_without_each_link(rt: HostRuntime) {
         )
     );
 }
+
+#[test]
+fn figures_without_each_node(rt: HostRuntime) {
+    let each = (
+        0,
+        "each nodes shortest 4 4 8 3 26 16/16 1/1 acyclic\na 4 2 10 8/8 1/1 acyclic\nb 4 2 10 8/8 1/1 acyclic\nc disconnected\nd 6 2 18 6/6 1/1 acyclic\n",
+        "",
+    );
+    assert!(rt;
+        prints(
+            rt.alloc(),
+            "stats --each nodes -",
+            "a b\nb c\nc a d\n",
+            each
+        )
+    );
+}

@@ -37,7 +37,7 @@ use Rattle.ir_worker.proofs.Routes.{earlier_in, split_of, split_routed, each_joi
 
 -- a setting that the plan is for
 abbrev setting_of : Plan → Setting
-setting_of t = record { topology = t.topology; labels = DepthFirst; first = t; capacity = 1; max_packets = 1; restamps = 0 }
+setting_of t = record { topology = t.topology; labels = DepthFirst; keeps = false; first = t; capacity = 1; max_packets = 1; restamps = 0 }
 
 plan_for : (t : Plan) → IsPlan t → IsPlanFor (setting_of t) t
 plan_for t is = record { plan = is; nodes = refl; links = refl; ports = λ u p hop at. (p, at) }

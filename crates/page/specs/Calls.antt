@@ -2,7 +2,7 @@
 use Rattle.std.specs.Prelude.{◌≡◌, ◌⊎◌, ℕ, true, false, List, [], ◌∷◌, ◌++◌, Some, length, map, take, drop, slice_get, codes, IsUtf8}
 use Rattle.ir_model.specs.Text.{lines}
 use Rattle.ir_cli.specs.declared.read.Source.{Source}
-use Rattle.ir_cli.specs.declared.read.Source.TheVariants.{Input, Topology, Script, Trace, Numbering}
+use Rattle.ir_cli.specs.declared.read.Source.TheVariants.{Input, Topology, New, Script, Trace, Numbering}
 use Rattle.ir_cli.specs.declared.words.Words.{Words}
 use Rattle.ir_cli.specs.Words.{FitsItsKind}
 use Rattle.ir_cli.specs.Meaning.{Asks}
@@ -25,6 +25,7 @@ typed_words text = or_sim (lines text)
 abbrev pub text_for : List ℕ → List ℕ → List ℕ → Source → List ℕ
 text_for topology script trace Input = topology
 text_for topology script trace Topology = topology
+text_for topology script trace New = script
 text_for topology script trace Script = script
 text_for topology script trace Numbering = script
 text_for topology script trace Trace = trace

@@ -28,7 +28,7 @@ fn text_for<'a>(topology: &'a [u8], script: &'a [u8], trace: &'a [u8], source: S
 {
     match source {
         Source::Input | Source::Topology => topology,
-        Source::Script | Source::Numbering => script,
+        Source::New | Source::Script | Source::Numbering => script,
         Source::Trace => trace,
     }
 }

@@ -30,8 +30,8 @@ fn put(room: &mut [u8], text: &[u8]) -> usize
 
 /// Does what words ask for over texts, as `route` does with these words over files of these texts. Each word ends in a
 /// line feed, which the last may lack; no words are the words `sim -`. The first text is the topology, or all of
-/// standard input where the words name `-`; the second is the script, or the order of nodes that `--numbering` names;
-/// the third is the trace. What the words do not ask for is not read.
+/// standard input where the words name `-`; the second is the script, the new topology of `diff`, or the order of nodes
+/// that `--numbering` names; the third is the trace. What the words do not ask for is not read.
 ///
 /// What there is room for of the output and of the lines of faults is put at the front of the rooms, and both lengths
 /// are given. Where a length is more than there is room for, the same call with larger rooms gives all of it. The

@@ -84,7 +84,7 @@ fn input_of(rt: &HostRuntime, words: &Words, source: Source) -> Input<File, Stdi
     let name = match source {
         Source::Input => "-",
         Source::Topology => words.file(0),
-        Source::Script => words.file(1),
+        Source::New | Source::Script => words.file(1),
         Source::Trace => words.file(2),
         Source::Numbering => words.order_file(),
     };

@@ -33,7 +33,7 @@ returns-in-Ok g c =
     gives_more (AnswersShow (kind_asked w (length graph)) graph labels c.in-Ok.show) (LookAnswers look w texts)
     (with_show look w texts c.look_texts.result.0.now (order_in c.look_texts.result.1) c.look_texts.ensures.texts graph c.in_ok-graph.ensures.sound c.in_ok-graph.ensures.graph
     labels c.in_ok-labels.ensures.labels c.in-Ok.show c.in-Ok.ensures.show)
-    c.show_plan.result (subst (λ (kind : Kind). Gives (AnswersShow kind graph labels c.in-Ok.show) c.show_plan.result) c.kind_over-kind.ensures c.show_plan.ensures)
+    c.show_read.result (subst (λ (kind : Kind). Gives (AnswersShow kind graph labels c.in-Ok.show) c.show_read.result) c.kind_over-kind.ensures c.show_read.ensures)
 
 pub returns-in-Err : goal.returns-in-Err
 returns-in-Err g c =

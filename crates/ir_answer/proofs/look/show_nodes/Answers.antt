@@ -10,6 +10,6 @@ use Rattle.ir_answer.proofs.look.show_nodes.Goals as goal
 pub returns : goal.returns
 returns c =
     let labels = labelling_of c.args.labels in
-    told_refusal c.args.graph.now c.args.kind labels (Says (Nodes c.args.span.0 c.args.span.1) (names c.args.graph.now)) c.in-Err.error c.from.result
+    told_refusal c.args.graph.now c.args.kind labels (Says (Nodes c.args.span.0 c.args.span.1) c.args.graph.now) c.in-Err.error c.from.result
     c.from.ensures (subst (λ (topology : Topology). RefusesPlan topology labels c.in-Err.error) c.in-Ok.ensures c.in-Err.ensures.refused)
     c.opening_stop.result c.opening_stop.ensures

@@ -13,7 +13,7 @@ pub returns-in-Ok : goal.returns-in-Ok
 returns-in-Ok g c =
     let graph = c.args.graph in
     let labels = labelling_of c.args.labels in
-    gives_more (AnswerShows Rows (names graph) c.in-Ok.plan) (AnswersShow c.args.kind graph labels Rows)
+    gives_more (AnswerShows Rows graph c.in-Ok.plan) (AnswersShow c.args.kind graph labels Rows)
     (shown_plan graph c.args.kind labels Rows c.in-Ok.plan c.in-Ok.ensures.plan) c.rows_reply.result c.rows_reply.ensures
 
 pub returns-in-Err : goal.returns-in-Err

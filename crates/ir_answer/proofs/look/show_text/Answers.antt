@@ -15,7 +15,7 @@ pub returns-in-Ok : goal.returns-in-Ok
 returns-in-Ok g c =
     let graph = c.args.graph.now in
     let labels = labelling_of c.args.labels in
-    gives_more (AnswerShows c.args.show (names graph) c.in-Ok.plan) (AnswersShow c.args.kind graph labels c.args.show)
+    gives_more (AnswerShows c.args.show graph c.in-Ok.plan) (AnswersShow c.args.kind graph labels c.args.show)
     (shown_plan graph c.args.kind labels c.args.show c.in-Ok.plan c.in-Ok.ensures.plan) c.text_reply.result c.text_reply.ensures
 
 pub returns-in-Some : goal.returns-in-Some

@@ -32,6 +32,7 @@ returns c = λ name are.
       svg = c.is_set-2.ensures;
       second = c.in_ok-second.ensures;
       each = c.is_given.ensures;
+      by_node = c.is_by_node.ensures;
       disjoint = c.is_set-3.ensures;
       order_alone = c.is_set-4.ensures;
       nodes = are.nodes;

@@ -4,13 +4,13 @@ use Rattle.ir_figures.proofs.Results.{on_ok_then}
 use Rattle.ir_figures.proofs.FailureLines.{may_label_left, has_root_left, words_over}
 use Rattle.ir_figures.proofs.failures.push_left.Goals as goal
 
-pub push_plan-requires-labels : goal.push_plan-requires-labels
-push_plan-requires-labels c =
+pub push_plan-requires-clause-labels : goal.push_plan-requires-clause-labels
+push_plan-requires-clause-labels c =
     let plan = c.args.plan.now in
     may_label_left plan c.args.order c.args.l c.in_ok-left.left c.kind.result (labelling_of c.in_ok-labels.labels) c.invariant.ensures.plan c.in_ok-left.ensures c.kind.ensures c.in_ok-labels.ensures
 
-pub push_plan-requires-root : goal.push_plan-requires-root
-push_plan-requires-root c =
+pub push_plan-requires-clause-root : goal.push_plan-requires-clause-root
+push_plan-requires-clause-root c =
     let plan = c.args.plan.now in
     λ some. has_root_left plan c.args.order c.args.l c.in_ok-left.left (labelling_of c.in_ok-labels.labels) c.invariant.ensures.plan c.in_ok-left.ensures c.in_ok-labels.ensures
 

@@ -14,17 +14,20 @@ use Rattle.ir_figures.proofs.FailureLines.{one_told, words_over}
 use Rattle.ir_figures.proofs.NodesLeft.{may_label_without, has_root_without}
 use Rattle.ir_figures.proofs.node_failures.node_failure_line.Goals as goal
 
-pub network_without-left-requires : goal.network_without-left-requires
-network_without-left-requires c =
+pub network_without-requires : goal.network_without-requires
+network_without-requires c =
     let g = c.args.graph.now in
     let x : Name = name_at (names g) c.args.k in
     let k_in : c.args.k < length (names g) = omega (arith, c.requires.node, length-map g (λ (r : Name × Neighbors). r.0)) in
     let has : has_node g x ≡ true = has_node_at g c.args.k x (slice_get-get_or (names g) c.args.k [] k_in) in
-    subst (λ (h : Adjacency). has_node h c.name_of-name.result.now ≡ true) (sym c.requires.copied)
-    (subst (λ (y : Name). has_node g y ≡ true) (sym c.name_of-name.ensures) has)
+    record {
+      node =
+          subst (λ (h : Adjacency). has_node h c.name_of-name.result.now ≡ true) (sym c.requires.copied)
+          (subst (λ (y : Name). has_node g y ≡ true) (sym c.name_of-name.ensures) has);
+    }
 
-pub push_plan-requires-labels : goal.push_plan-requires-labels
-push_plan-requires-labels c =
+pub push_plan-requires-clause-labels : goal.push_plan-requires-clause-labels
+push_plan-requires-clause-labels c =
     let g = c.args.graph.now in
     let s = c.args.plan.now in
     let over : c.in_ok-left.left ≡ network_without g c.args.k =
@@ -34,8 +37,8 @@ push_plan-requires-labels c =
     (subst (λ (l : Labelling). MayLabel (network_without g c.args.k) c.args.kind l) (sym c.in_ok-labels.ensures)
     (may_label_without c.args.kind s c.args.order g c.args.k c.invariant.ensures.plan same c.requires.node c.invariant-2.ensures.graph))
 
-pub push_plan-requires-root : goal.push_plan-requires-root
-push_plan-requires-root c =
+pub push_plan-requires-clause-root : goal.push_plan-requires-clause-root
+push_plan-requires-clause-root c =
     let g = c.args.graph.now in
     let s = c.args.plan.now in
     let over : c.in_ok-left.left ≡ network_without g c.args.k =

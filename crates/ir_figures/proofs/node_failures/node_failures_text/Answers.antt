@@ -1,4 +1,4 @@
-use Rattle.std.proofs.Common.{◌∙◌, ◌++◌, List, ℕ, codes, map, flat_map, ap}
+use Rattle.std.proofs.Common.{◌∙◌, ◌++◌, List, ℕ, codes, map, ap}
 use Rattle.std.specs.List.{range_with_len}
 use Rattle.ir_model.specs.Topology.{node_count}
 use Rattle.ir_show.specs.Words.{line_text}
@@ -16,7 +16,7 @@ returns c =
       words = told.0;
       figures = told.1;
       lines = map bytes_made made;
-      each = bytes_zipped (IsNodeLine c.args.graph.now s c.args.kind c.args.order) (range_with_len 0 (node_count s.topology)) made c.requires;
+      each = bytes_zipped (IsNodeLine c.args.graph.now s c.args.kind c.args.order) (range_with_len 0 (node_count s.topology)) made c.requires.lines;
       whole = told.2 ∙ ap (λ (t : List ℕ). line_text (failures_head (codes "nodes") s told.0) ++ t) (bytes_joined made);
     })
     c.failures_text.ensures

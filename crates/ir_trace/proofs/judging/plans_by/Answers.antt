@@ -1,4 +1,5 @@
-use Rattle.std.proofs.Common.{List, [], arith, sym, subst}
+use Rattle.std.proofs.Common.{List, [], Some, ◌∙◌, ap, arith, sym, subst}
+use Rattle.std.proofs.lemmas.Option.{slice_get-get_or}
 use Rattle.std.proofs.lemmas.List.{take_all}
 use Rattle.ir_model.specs.Plan.{Plan}
 use Rattle.ir_core.specs.declared.built.Install.{Install}
@@ -17,3 +18,8 @@ pub returns : goal.returns
 returns g c =
     subst (λ (installs : List Install). ArePlansOf c.args.topology.now installs c.loop-install.plans.items)
     (take_all c.loop-install.install-index c.args.installs.now c.loop-install-test.false) c.loop-install.invariant
+
+pub plan_by-requires-after_bounds : goal.plan_by-requires-after_bounds
+plan_by-requires-after_bounds g c κs within =
+    let now = c.install-item.result in
+    c.requires c.loop-install.install-index now (slice_get-get_or c.args.installs.now c.loop-install.install-index now (omega (arith, c.loop-install-test.true)) ∙ ap Some (sym c.install-item.is))

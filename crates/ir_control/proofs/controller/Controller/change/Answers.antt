@@ -69,6 +69,7 @@ returns-clause-answer g c = (
           opening = refl;
           registry = refl;
           labels = refl;
+          keeps = refl;
         },
       )),
 )

@@ -16,14 +16,14 @@ use Rattle.ir_control.proofs.controller.Controller.plan.Goals as goal
 pub returns-in_err-plan-clause-answer : goal.returns-in_err-plan-clause-answer
 returns-in_err-plan-clause-answer g c =
     let own = c.args.self.now in
-    let is = err_from_is_err_and c.from_residual.result c.from_residual.ensures.1 in
+    let is = err_from_is_err_and c.from_residual-in_err-plan.result c.from_residual-in_err-plan.ensures.1 in
     rw (is.1, is.2)
     (later_refused (knows own.opening).topology c.topology-topology.result.now (board_of (published own.writer)) c.board-board.result (c.topology-topology.ensures ∙ ap (λ (t : Plan). t.topology) c.plan.ensures) c.board-board.ensures.board own.labels c.args.root (items_of c.in_ok-kept.kept) c.requires _
     c.in_err-plan.ensures.refused)
 
 pub returns-in_err-plan-clause-number : goal.returns-in_err-plan-clause-number
 returns-in_err-plan-clause-number g c =
-    let is = err_from_is_err_and c.from_residual.result c.from_residual.ensures.1 in
+    let is = err_from_is_err_and c.from_residual-in_err-plan.result c.from_residual-in_err-plan.ensures.1 in
     rw (is.1, is.2) (no_plan _)
 
 pub returns-clause-answer : goal.returns-clause-answer
