@@ -109,7 +109,9 @@ class PlayedTest(unittest.TestCase):
         self.assertEqual(set(self.play(restamps=1, retire=True)), {"delivered"})
 
     def test_live(self) -> None:
-        self.assertGreater(self.play(bentzolu.live, mode="ahead", live=True, most=6)["delivered"], 60)
+        found = self.play(bentzolu.live, mode="ahead", live=True, most=6)
+        self.assertGreater(found["delivered"], 60)
+        self.assertEqual(set(found), {"delivered"})
 
 
 @needs_route
