@@ -76,23 +76,6 @@ static void refuse_ports_gone(const struct table *table) {
     close(who);
 }
 
-/* Refuses a table that is not the one of the row, or of the bytes, in its lowest lines: the kernel gets these alone. */
-static void refuse_unlike(const struct table *table) {
-    const uint32_t *head = table->line[0].word, of_bytes[HEAD_WORDS] = {head[0], head[1], head[2], BYTES};
-    struct held made = table_of_row(head, (struct leaves){table->word, head[HEAD_DEPTH] == BYTES ? 0 : table->count});
-    if (!made.lines)
-        refuse("out of memory");
-    if (head[HEAD_DEPTH] == BYTES)
-        memcpy(made.line, of_bytes, sizeof of_bytes);
-    const uint32_t *word = made.line[0].word;
-    for (uint32_t i = 0; i < (head[HEAD_DEPTH] == BYTES ? 1 : table->lines) * WORDS; i++)
-        if (i / WORDS == made.lines || head[i] != word[i])
-            refuse("word %u of line %u is not what the table of its row has there", i % WORDS + 1, i / WORDS + 1);
-    if (head[HEAD_DEPTH] != BYTES && made.lines != table->lines)
-        refuse("the table of its row has %u lines, not %u", made.lines, table->lines);
-    free(made.line);
-}
-
 /* Checks a table's head, and reads the row that its lowest lines say. */
 static void read_row_of_lines(struct table *table, uint32_t epoch, uint32_t ports) {
     const uint32_t *head = table->line[0].word;
@@ -112,7 +95,6 @@ static void read_row_of_lines(struct table *table, uint32_t epoch, uint32_t port
         for (uint32_t i = 0; i < table->labels; i++)
             if (i == 0 || bytes[i] != bytes[i - 1])
                 add_start(table, i, bytes[i], ports);
-        refuse_unlike(table);
         return;
     }
     if ((depth == 0) != (table->lines == 1) || first > table->lines)
@@ -123,7 +105,6 @@ static void read_row_of_lines(struct table *table, uint32_t epoch, uint32_t port
         add_start(table, leaf[i] >> 16, leaf[i] & 0xFFFF, ports);
     if (table->count && table->word[0] >> 16)
         refuse("the first start of a table is 0, not %u", table->word[0] >> 16);
-    refuse_unlike(table);
 }
 
 /* A row that is given beside its lines: the kernel is then asked for what the row says. */

@@ -27,10 +27,6 @@
 
 #include "store.h"
 
-static const struct line *line_at(const struct store *store, uint32_t at) { return at < store->lines ? store->line + at : NULL; }
-#define LINE_AT(store, at) line_at(store, at)
-#include "look.h"
-
 #define PINS "/sys/fs/bpf/bentzolu"
 #define OBJECT "plane.bpf.o"
 #define PATH_BYTES 512
@@ -432,16 +428,17 @@ static struct tables all_tables(const char *folder) {
     close(outer);
     if (found.map < 0)
         return found;
-    struct store store = {entries_of(found.map), NULL};
-    store.line = room(store.lines, sizeof *store.line);
-    for (uint32_t at = 0; at < store.lines; at++)
-        if (bpf_map_lookup_elem(found.map, &at, &store.line[at]))
+    uint32_t count = entries_of(found.map);
+    struct line *store = room(count, sizeof *store);
+    for (uint32_t at = 0; at < count; at++)
+        if (bpf_map_lookup_elem(found.map, &at, &store[at]))
             refuse_by(errno, "the tables");
-    if (!is_store(&store))
-        refuse("the plane at %s is of another version: take it down, and bring it up again", folder);
-    if (!hold_all(&store, found.of))
-        refuse("out of memory");
-    free(store.line);
+    for (uint32_t entry = 0; entry <= store[0].word[0]; entry++) {
+        struct held it = held_at(store, entry);
+        if (it.lines)
+            found.of[it.line[0].word[HEAD_EPOCH] % EPOCHS] = it;
+    }
+    free(store);
     return found;
 }
 
@@ -451,47 +448,28 @@ static int epoch_in(const struct tables *tables, uint32_t slot) {
     return it->lines ? (int)it->line[0].word[HEAD_EPOCH] : -1;
 }
 
-/* Refuses lines in which a label of a table is led elsewhere than by the table itself: each is looked up as the program does. */
-static void refuse_wrong(struct store *store, const struct held *table) {
-    const uint32_t *head = table->line[0].word;
-    struct leaves row = leaves_of(table);
-    for (uint32_t label = 0, at = 0; label < head[HEAD_LABELS] + 2; label++) {
-        while (at + 1 < row.count && row.word[at + 1] >> 16 <= label)
-            at++;
-        uint32_t port = ANY_PORT, wanted = row.count ? row.word[at] & 0xFFFF : ANY_PORT;
-        if (is_of_bytes(table) && label < head[HEAD_LABELS])
-            wanted = ((const uint8_t *)table->line[1].word)[label];
-        enum verdict verdict = looked_up(store, head[HEAD_EPOCH], label, &port);
-        if (label == head[HEAD_OWN] ? verdict != DELIVERED
-            : label >= head[HEAD_LABELS] ? verdict != NO_LABEL : verdict != FORWARDED || port != wanted)
-            refuse("the label %u of epoch %u would not be forwarded as its table says: nothing is changed", label, head[HEAD_EPOCH]);
-    }
-}
-
 /* Puts a map with these tables, which nobody can change any more, in the place of the one that is there. A packet sees the one
  * or the other. When this returns no program runs any more that has seen the old one. */
 static void put_tables(const struct tables *tables) {
     LIBBPF_OPTS(bpf_map_create_opts, options, .map_flags = BPF_F_INNER_MAP);
     LIBBPF_OPTS(bpf_map_batch_opts, batch, .elem_flags = BPF_ANY);
     struct held held[EPOCHS];
-    uint32_t count = 0;
+    uint32_t count = 0, lines = 0;
     for (uint32_t slot = 0; slot < EPOCHS; slot++)
         if (tables->of[slot].lines)
             held[count++] = tables->of[slot];
-    struct store store = stored(held, count);
-    if (!store.lines)
-        refuse("out of memory");
-    for (uint32_t i = 0; i < count; i++)
-        refuse_wrong(&store, &held[i]);
-    uint32_t *keys = room(store.lines, 4), lines = store.lines;
+    struct line *store = stored(held, count, EPOCHS, &lines);
+    uint32_t *keys = room(lines ? lines : 1, 4);
     for (uint32_t i = 0; i < lines; i++)
         keys[i] = i;
-    int map = bpf_map_create(BPF_MAP_TYPE_ARRAY, "tables", 4, sizeof *store.line, lines, &options);
-    if (map < 0 || bpf_map_update_batch(map, keys, store.line, &lines, &batch) || bpf_map_freeze(map))
+    if (!store)
+        refuse("out of memory");
+    int map = bpf_map_create(BPF_MAP_TYPE_ARRAY, "tables", 4, sizeof *store, lines, &options);
+    if (map < 0 || bpf_map_update_batch(map, keys, store, &lines, &batch) || bpf_map_freeze(map))
         refuse_by(errno, "the tables");
     put(pinned("tables"), 0, &map, "the tables");
     close(map);
-    free(store.line);
+    free(store);
     free(keys);
 }
 

@@ -27,7 +27,6 @@ static __always_inline __u64 stride(__u64 word, __u64 key, __u64 step) {
 }
 
 static __always_inline __u32 bz_place_16(const __u32 *word, __u64 length, __u32 key) {
-    (void)length;
     __u64 p = stride(word[8], key, 8);
     p += stride(word[p + 4], key, 4);
     p += stride(word[p + 2], key, 2);
@@ -36,7 +35,6 @@ static __always_inline __u32 bz_place_16(const __u32 *word, __u64 length, __u32 
 }
 
 static __always_inline __u32 bz_place_32(const __u32 *word, __u64 length, __u32 key) {
-    (void)length;
     __u64 p = stride(word[16], key, 16);
     p += stride(word[p + 8], key, 8);
     p += stride(word[p + 4], key, 4);
@@ -46,7 +44,6 @@ static __always_inline __u32 bz_place_32(const __u32 *word, __u64 length, __u32 
 }
 
 static __always_inline __u32 bz_head(const __u32 *word, __u64 length, __u32 epoch, __u32 label) {
-    (void)length;
     if (word[0] != epoch)
         return 3;
     if (word[2] == label)

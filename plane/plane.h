@@ -10,23 +10,14 @@ enum {
     LABELS = 16384,    /* at most */
     STARTS = 16384,    /* of a row, at most */
     WORDS = 32,        /* of a line */
-    ROOT_WORDS = 16,   /* of a root, the second half of a line 0 */
+    ROOT_WORDS = 16,   /* of a table's root */
+    ENTRY_WORDS = 4,   /* of a table's entry in the map of all tables; store.h says what stands where */
+    LEAST_MASK = 3,    /* four entries at least */
+    LEAST_ROOT = 4,    /* words of a root that are kept at least */
     PORTS = 1024,      /* at most; the loader makes the maps as large as the node has neighbours */
     BYTES = 255,       /* the depth of a table that has a byte for each label */
     GROUP = 0xFD00,    /* the first group of all addresses; the second is the epoch, the last the label */
     NAME_BYTES = 64,   /* of a node's name, and of a neighbour's */
-};
-
-/* Of the lines in which all tables of a node stand together; store.h says what stands where. */
-enum {
-    STORE_FORM = 2, /* the number of this form: lines of another one are not read */
-    FIRST_HEAD = 4, /* the word of line 0 at which the first head is */
-    HEAD_SIZE = 2,  /* words of a table's head */
-    LEVELS = 4,     /* below the root, at most */
-    AGES = 1024,    /* epochs of one slot */
-    PORT_BITS = 11, /* of a word, the lowest; a start has 14 above them */
-    SLOT_SHIFT = 25,
-    ANY_PORT = (1 << PORT_BITS) - 1, /* not below any port; in a head it stands for none */
 };
 
 /* What becomes of a packet; each has a counter for each slot. */

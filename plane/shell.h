@@ -12,8 +12,7 @@
 #include <bpf/bpf_helpers.h>
 
 #include "plane.h"
-#define LINE_AT(store, at) ((const struct line *)bpf_map_lookup_elem(store, &(at)))
-#include "look.h"
+#include "place.h"
 
 #ifndef SLOTS
 #define SLOTS EPOCHS
@@ -25,9 +24,7 @@
 #define TABLE_FLAGS BPF_F_INNER_MAP /* as many lines as the tables take */
 #define TABLE_KEY sizeof(__u32)
 #define TABLE_VALUE sizeof(struct line)
-#endif
-#ifndef MAPS
-#define MAPS 1 /* has all tables; where one comes or goes, another map takes its place */
+#define TABLES 1 /* one map has all tables; where one comes or goes, another map takes its place */
 #endif
 
 struct table {
@@ -39,7 +36,7 @@ struct table {
 };
 struct {
     __uint(type, BPF_MAP_TYPE_ARRAY_OF_MAPS);
-    __uint(max_entries, MAPS);
+    __uint(max_entries, TABLES);
     __type(key, __u32);
     __array(values, struct table);
 } tables SEC(".maps");
@@ -116,10 +113,79 @@ static __always_inline void report(enum origin origin, struct ipv6hdr *ip, void 
 #ifdef OTHER_RULING
 static __always_inline enum verdict ruling(__u32 epoch, __u32 label, __u32 *port);
 #else
+/* A root of which 4 or 8 words are kept, whole again: what stands for none comes after them. */
+static __always_inline void fill(__u64 *root, const __u32 *line, __u32 where, __u32 size) {
+    const __u64 none = ~0ull;
+    root[2] = root[3] = root[4] = root[5] = root[6] = root[7] = none;
+    if (size == LEAST_ROOT) {
+        const __u64 *from = (const void *)(line + (where & (WORDS - LEAST_ROOT)));
+        root[0] = from[0], root[1] = from[1];
+    } else {
+        const __u64 *from = (const void *)(line + (where & (WORDS - 2 * LEAST_ROOT)));
+        root[0] = from[0], root[1] = from[1], root[2] = from[2], root[3] = from[3];
+    }
+}
+
 static __always_inline enum verdict ruling(__u32 epoch, __u32 label, __u32 *port) {
-    __u32 at = MAPS > 1 ? epoch / EPOCHS & (MAPS - 1) : 0;
+    __u32 at = 0;
     void *store = bpf_map_lookup_elem(&tables, &at);
-    return store ? looked_up(store, epoch, label, port) : NO_EPOCH;
+    struct line *line = store ? bpf_map_lookup_elem(store, &at) : 0;
+    if (!line || !epoch)
+        return NO_EPOCH;
+    __u32 entry = ENTRY_WORDS * (1 + (epoch & line->word[0] & (SLOTS - 1)));
+    at = entry / WORDS;
+    if (at && !(line = bpf_map_lookup_elem(store, &at)))
+        return NO_EPOCH;
+    const __u32 *it = line->word + (entry & (WORDS - ENTRY_WORDS));
+    __u32 where = it[2], first = it[3] & 0xFFFF, depth = where >> 24, size = where >> 16 & 0xFF, base = it[1] >> 16;
+    __u32 head[HEAD_WORDS] = {it[0] & 0xFFFF, it[1] & 0xFFFF, it[0] >> 16};
+    __u32 verdict = bz_head(head, HEAD_WORDS, epoch, label);
+    if (verdict)
+        return verdict;
+    __u32 next = depth == BYTES ? first + label / (4 * WORDS) : (where & 0xFFFF) / WORDS;
+    if (at != next) {
+        at = next;
+        line = bpf_map_lookup_elem(store, &at);
+        if (!line)
+            return NO_EPOCH;
+    }
+    if (depth == BYTES) {
+        *port = ((__u8 *)line->word)[label & (4 * WORDS - 1)];
+        return FORWARDED;
+    }
+    __u32 key = label << 16 | 0xFFFF, word;
+    __u64 place;
+    if (size == ROOT_WORDS) {
+        const __u32 *root = line->word + (where & ROOT_WORDS);
+        place = bz_place_16(root, ROOT_WORDS, key);
+        word = root[place];
+    } else {
+        union {
+            __u64 pair[ROOT_WORDS / 2];
+            __u32 word[ROOT_WORDS];
+        } root;
+        fill(root.pair, line->word, where, size);
+        place = bz_place_16(root.word, ROOT_WORDS, key);
+        word = root.word[place];
+    }
+    if (depth) {
+        __u32 below = first - 1 + base + place * WORDS; /* a table's line 1 is the line `first` of the map */
+        at = first + place;
+        line = bpf_map_lookup_elem(store, &at);
+        if (!line)
+            return NO_EPOCH;
+        place = bz_place_32(line->word, WORDS, key);
+        if (depth > 1) {
+            at = below + place;
+            line = bpf_map_lookup_elem(store, &at);
+            if (!line)
+                return NO_EPOCH;
+            place = bz_place_32(line->word, WORDS, key);
+        }
+        word = line->word[place];
+    }
+    *port = word & 0xFFFF;
+    return FORWARDED;
 }
 #endif
 

@@ -119,8 +119,8 @@ def test_inputs() -> None:
         expect(f"diff {words}", run(["diff", *words], data.encode()), CHANGED.encode(), b"", 0)
     same = run(["diff", "--json", old, old])
     expect("nothing changes", same, b'{"diff":["shortest","shortest"],"nodes":4,"changed":0,"relabelled":0,"removed":0,"put":0,"rows":[\n]}\n', b"", 0)
-    for words in (["-", "-"], [old], [old, new, old], []):
-        count(f"diff {words} is refused", None if run(["diff", *words])[2] == 2 else "no usage")
+    for files in (["-", "-"], [old], [old, new, old]):
+        count(f"diff {files} is refused", None if run(["diff", *files])[2] == 2 else "no usage")
     for words, said in ((["--kind", "tree", "--numbering", "keep"], b"'--kind tree' works only with '--numbering depth-first'"),
                         (["--kind", "landmark", "--numbering", "keep"], b"'--kind landmark' cannot be used with '--numbering'"),
                         (["--numbering", old], b"depth-first, tour, keep"), (["--stretch", "200"], b"require '--kind landmark'")):

@@ -128,7 +128,7 @@ def test_front_figures() -> None:
 
 def test_front_help() -> None:
     """On a terminal help is as wide as that, with examples and the exit status; -h is short."""
-    for words_ in (["--help"], ["-h"], ["help", "plan"], *([sub, "--help"] for sub in ("plan", "walk", "stats", "compare", "draw", "prefixes", "ranges", "sim", "live", "check"))):
+    for words_ in (["--help"], ["-h"], ["help", "plan"], *([sub, "--help"] for sub in ("plan", "walk", "stats", "compare", "diff", "draw", "prefixes", "ranges", "sim", "live", "check"))):
         for columns in (60, 80, 200):
             text, faults, status = shown(words_, columns)
             widest = max(map(len, plainly(text).splitlines()))

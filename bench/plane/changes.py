@@ -3,9 +3,8 @@
 a table of a document.
 
 It runs in the namespace `node` of bench/plane/run, over what rows.py wrote and the plane that plane/make built there. The time of
-a step in XDP is that of the whole program. Installing reads the table, makes a map, waits until no program uses the old one, and
-asks for each label; stamping and retiring wait, too. A change is from one stamped epoch to the next. `ip -batch` replaces each
-route, and nft one map in one transaction.
+a change in XDP is that of the whole program: it reads the table, makes its map, waits until no program uses the slot, and asks for
+each label. `ip -batch` replaces each route, and nft one map in one transaction.
 """
 import pathlib
 import resource
@@ -16,7 +15,7 @@ import time
 
 FOLDER, TURNS = pathlib.Path(sys.argv[1]), int(sys.argv[2])
 TOOL, PINS = FOLDER / "plane" / "bentzolu-xdp", "/run/pins/node"
-EPOCHS = [5, 6]  # the first is that of the tables of rows.py; each comes in the other's place
+EPOCH = 5  # that of the tables of rows.py
 
 
 def ran(words, path=None):
@@ -32,19 +31,9 @@ def plane(*words, path=None):
     return ran([TOOL, "--pins", PINS, *words], path)
 
 
-def lines_of(starts, epoch):
-    """The file of a row's table for an epoch."""
-    made = (FOLDER / f"{starts}.lines").read_bytes()
-    path = FOLDER / f"{starts}.{epoch}"
-    path.write_bytes(epoch.to_bytes(4, "little") + made[4:])
-    return path
-
-
 def by_xdp(starts):
-    """The steps of a change to a row of so many starts: install, stamp, retire the other epoch."""
-    old, new = EPOCHS
-    EPOCHS.reverse()
-    return plane("install", new, FOLDER / f"{starts}.row", path=lines_of(starts, new)), plane("stamp", new), plane("retire", old)
+    took = plane("install", EPOCH, FOLDER / f"{starts}.row", path=FOLDER / f"{starts}.lines")
+    return took, plane("retire", EPOCH)
 
 
 def by_nft(starts):
@@ -76,16 +65,12 @@ def main():
     pathlib.Path("/run/pins").mkdir()
     subprocess.run(["mount", "-t", "bpf", "bpf", "/run/pins"], check=True)
     plane(*up)
-    plane("install", EPOCHS[0], path=lines_of(4, EPOCHS[0]))
-    plane("stamp", EPOCHS[0])
     found = {}
     for _ in range(TURNS):
         for starts in (4, 1024, 8192):
-            steps = by_xdp(starts)
-            found.setdefault(f"XDP: install a row of {starts:,} starts, each of 16,384 labels asked", []).append(steps[0])
-            found.setdefault("XDP: stamp", []).append(steps[1])
-            found.setdefault("XDP: retire", []).append(steps[2])
-            found.setdefault(f"XDP: all three, for a row of {starts:,} starts", []).append([sum(it) for it in zip(*steps)])
+            installed, retired = by_xdp(starts)
+            found.setdefault(f"XDP: install a row of {starts:,} starts, each of 16,384 labels asked", []).append(installed)
+            found.setdefault(f"XDP: retire a row of {starts:,} starts", []).append(retired)
             found.setdefault(f"nftables: {starts:,} ranges", []).append(by_nft(starts))
         found.setdefault("routes: 1,024", []).append(by_routes(1024))
     plane("down")

@@ -14,12 +14,10 @@
 #define OTHER_RULING
 #define TABLE_KEY sizeof(__u32)
 #ifdef COLD
-#define MAPS SLOTS /* a map for each table */
+#define TABLES SLOTS /* a map for each table */
 #else
-#define MAPS 64
+#define TABLES 64
 #endif
-#elif defined(COLD)
-#define MAPS 32 /* each as that of a node */
 #endif
 #if FORM == BYTES_OF_ONE
 #define TABLE_TYPE BPF_MAP_TYPE_ARRAY
@@ -53,7 +51,7 @@
 
 #if FORM != LINES
 static __always_inline enum verdict ruling(__u32 epoch, __u32 label, __u32 *port) {
-    __u32 at = epoch & (MAPS - 1);
+    __u32 at = epoch & (TABLES - 1);
     void *table = bpf_map_lookup_elem(&tables, &at);
     if (!table)
         return NO_EPOCH;

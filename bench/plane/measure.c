@@ -29,7 +29,7 @@ static const char *const names[] = {"no look-up",        "intervals, C",  "inter
 static const char *const objects[] = {"none", "lines", "proved", "lines", "proved", "bytes", "array", "hash", "trie", "none", "none"};
 enum { XDP, GENERIC, TC };
 static const char *const modes[] = {"XDP", "generic XDP", "tc"};
-enum { EPOCH = 5, DEVICES = 8, MOST = 128, COLD_SLOTS = 2048, MORE = EPOCHS - 1 };
+enum { EPOCH = 5, DEVICES = 8, MOST = 128, COLD_SLOTS = 2048, MORE = 15 };
 
 struct draw {
     uint64_t state;
@@ -41,8 +41,8 @@ struct tried {
     uint32_t starts, labels, tables; /* 0 starts: a full table; 0 tables: one, of EPOCH */
     struct bpf_object *object;
     int look, link, tc, pass;
-    uint64_t bytes, lost;
-    double *times, change, more; /* bytes of one more table */
+    uint64_t bytes, more, lost; /* of its map, and of one more table */
+    double *times, change;
 };
 
 static const char *folder;
@@ -137,16 +137,17 @@ static struct held lines_of(const struct tried *it, uint32_t epoch) {
 }
 
 /* A map with so many tables of a row, for epochs from one on. */
-static int map_of_tables(const struct tried *it, uint32_t from, uint32_t tables) {
+static int map_of_tables(const struct tried *it, uint32_t from, uint32_t tables, uint32_t slots) {
     struct held *all = calloc(tables, sizeof *all);
+    uint32_t lines = 0;
     for (uint32_t i = 0; i < tables; i++)
         all[i] = lines_of(it, from + i);
-    struct store store = stored(all, tables);
-    int map = filled(BPF_MAP_TYPE_ARRAY, sizeof *store.line, store.lines, store.line, BPF_F_INNER_MAP, store.lines);
+    struct line *store = stored(all, tables, slots, &lines);
+    int map = filled(BPF_MAP_TYPE_ARRAY, sizeof *store, lines, store, BPF_F_INNER_MAP, lines);
     for (uint32_t i = 0; i < tables; i++)
         free(all[i].line);
     free(all);
-    free(store.line);
+    free(store);
     return map;
 }
 
@@ -160,7 +161,7 @@ static int table_of(const struct tried *it, uint32_t epoch) {
     FILE *file;
     switch (it->form) {
     case TREE: case PROVED: case LINES_OF_BYTES: case PROVED_OF_BYTES:
-        map = map_of_tables(it, epoch, 1);
+        map = map_of_tables(it, epoch, 1, EPOCHS);
         break;
     case BYTES_OF_ONE:
         ports = realloc(ports, 16384);
@@ -214,15 +215,11 @@ static void ask(const struct tried *it) {
 
 /* Puts many tables in their slots; a batch of puts waits once. */
 static void open_many(const struct tried *it) {
-    uint32_t keys[128], count = 0;
+    uint32_t keys[128], count = 0, zero = 0;
     int maps[128];
-    if (is_of_lines(it)) { /* each map as that of a node */
-        for (uint32_t from = 0; from <= it->tables; from += EPOCHS) {
-            uint32_t first = from ? from : 1, last = from + EPOCHS - 1 < it->tables ? from + EPOCHS - 1 : it->tables, key = from / EPOCHS;
-            int map = map_of_tables(it, first, last - first + 1);
-            put(map_of(it->object, "tables"), &key, &map);
-            close(map);
-        }
+    if (is_of_lines(it)) { /* as all tables of a node */
+        int map = map_of_tables(it, 1, it->tables, COLD_SLOTS);
+        put(map_of(it->object, "tables"), &zero, &map);
         return;
     }
     for (uint32_t epoch = 1; epoch <= it->tables; epoch++) {
@@ -267,8 +264,8 @@ static void open_one(struct tried *it, int is_way) {
     it->bytes = bytes_of(map);
     it->more = it->bytes;
     if (is_of_lines(it)) { /* what each of so many more takes */
-        int many = map_of_tables(it, EPOCH, 1 + MORE);
-        it->more = (double)(bytes_of(many) - it->bytes) / MORE;
+        int many = map_of_tables(it, EPOCH, 1 + MORE, EPOCHS);
+        it->more = (bytes_of(many) - it->bytes) / MORE;
         close(many);
     }
     if (it->form != NONE && it->form < ROUTES)
@@ -487,8 +484,8 @@ int main(int count, char **words) {
         else if (i == 0)
             printf("| %s | | | %.0f in all | | | | |\n", names[it->form], median);
         else
-            printf("| %s | %s | %u | %.0f | %lu | %.0f | %.2f | %.0f |\n", names[it->form], of, it->labels, median - base, it->bytes, it->more,
-                   it->more / 4 / (it->starts ? it->starts : it->labels / 2), it->change * 1e6);
+            printf("| %s | %s | %u | %.0f | %lu | %lu | %.2f | %.0f |\n", names[it->form], of, it->labels, median - base, it->bytes, it->more,
+                   it->more / 4.0 / (it->starts ? it->starts : it->labels / 2), it->change * 1e6);
     }
     return 0;
 }

@@ -127,6 +127,7 @@ function examples_of(which) {
     if (which == "walk") return name " walk --from Seattle --to Houston net.edgelist"
     if (which == "stats") return name " stats --kind tree net.adjlist\n" name " stats --json net.adjlist | jq .bits"
     if (which == "compare") return name " compare net.edgelist\n" name " generate topology fattree 8 | " name " compare -"
+    if (which == "diff") return name " diff --kind compact --numbering keep net.adjlist new.adjlist"
     if (which == "draw") return name " draw --color always net.adjlist | dot -Tsvg > net.svg\n" name " draw --node Houston --svg -o houston.svg net.edgelist"
     if (which == "prefixes") return name " prefixes --kind compact net.adjlist"
     if (which == "ranges") return name " ranges net.adjlist"

@@ -134,7 +134,7 @@ def of_tables() -> None:
         with open(wrong, "w", encoding="ascii") as file:
             file.write(text)
         refused(what, sentence, f"install 3 {wrong}", table(row, 3))
-    refused("a root that is one short", "word 18 of line 1 is not what", "install 3", edited(3, Row(1000, 0, tuple((2 * i, i % 2) for i in range(40))), 17, 0xFFFFFFFF))
+    refused("a root that is one short", "is not forwarded as", "install 3", edited(3, Row(1000, 0, tuple((2 * i, i % 2) for i in range(40))), 17, 0xFFFFFFFF))
     taken("epoch 1 as before", "check 1", good)
 
 
@@ -176,25 +176,18 @@ def bytes_of_tables() -> int:
 
 
 def of_memory() -> None:
-    """Tables in all slots of a node: what one more takes of 4 starts, and 63 of many sizes, of which each is then asked for."""
-    draw = random.Random(2)
-    few = [Row(64, 1, tuple((at * 16, at % 2) for at in range(4)))] * 63
-    many = []
-    for i in range(63):
-        labels, starts = (300, 290) if i % 9 == 0 else (16384, 3900) if i % 13 == 1 else (512, draw.choice((1, 4, 5, 17, 38, 110, 200)))
-        many.append(Row(labels, draw.randrange(labels), tuple((start, at % 2) for at, start in enumerate(sorted(draw.sample(range(labels), starts))))))
-    for what, rows in (("of 4 starts", few), ("of many sizes", many)):
-        before = bytes_of_tables()
-        for epoch, row in enumerate(rows, 2):
+    """What one more table takes, until a node has 16: its row's words, and an entry of 16 bytes."""
+    for starts, labels in ((4, 512), (16, 2048), (64, 2048), (256, 2048)):
+        row = Row(labels, 1, tuple((at * labels // starts, at % 2) for at in range(starts)))
+        found = []
+        for epoch in range(2, 17):
             tool(f"install {epoch}", table(row, epoch))
-        more = (bytes_of_tables() - before) / 63
-        words = sum(4 * len(row.words) for row in rows) / 63
-        count(f"memory: one more table {what}", None if words / 4 <= more <= 1.3 * words else f"{more} bytes, of {words} of words")
-        wrong = [epoch for epoch, row in enumerate(rows, 2) if tool(f"check {epoch}", table(row, epoch))[0]]
-        count(f"memory: all {what} are right", f"{wrong} are not" if wrong else None)
-        said = [tool(f"lines {epoch}")[1] == lines.as_text(lines.lines(row, epoch)) for epoch, row in enumerate(rows, 2)]
-        count(f"memory: all {what} are read back", None if all(said) else f"{said.count(False)} are not")
-        for epoch in range(2, 65):
+            found.append(bytes_of_tables())
+        more = (found[-1] - found[0]) / 14
+        most = 1.3 * 4 * starts if starts >= 16 else 4 * starts + 24  # an entry, and what a line has left
+        count(f"memory: one more table of {starts} starts", None if 4 * starts <= more <= most else f"{more} bytes, of {found}")
+        count(f"memory: all of {starts} starts are right", None if all(tool(f"check {it}", table(row, it))[0] == 0 for it in (2, 9, 16)) else "one is not")
+        for epoch in range(2, 17):
             tool(f"retire {epoch}")
     count("memory: nothing is left", None if bytes_of_tables() < 1000 else f"{bytes_of_tables()} bytes")
 

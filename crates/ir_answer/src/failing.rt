@@ -15,17 +15,11 @@ use std::alloc::{AllocError, Global};
 /// The fewest failures that a thread is started for.
 const LEAST_FAILURES: usize = 1;
 
-/// What a graph was read from.
-#[derive(Clone, Copy)]
-pub struct Read<'a> {
-    pub format: Format,
-    pub text: &'a [u8],
-}
-
 /// The line of a node that fails.
 fn node_line(
     alloc: Global,
-    read: Read<'_>,
+    format: Format,
+    text: &[u8],
     graph: &Graph,
     plan: &Plan,
     kind: Kind,
@@ -33,12 +27,12 @@ fn node_line(
     k: usize,
 ) -> Result<NodeText, AllocError>
     requires node { k < length graph.now }
-    requires read { IsRead read graph.now }
+    requires read { IsRead format text.now graph.now }
     requires over { plan.now.topology ≡ topology_of_graph graph.now }
     ensures { IfOk result (λ made. IsNodeLine graph.now plan.now kind order k (bytes_made made)) }
 {
     graph.invariant();
-    let Ok(copy) = read_topology(alloc, read.format, read.text) else {
+    let Ok(copy) = read_topology(alloc, format, text) else {
         return Err(AllocError);
     };
     node_failure_line(alloc, graph, copy, plan, kind, order, k as u16)
@@ -48,13 +42,14 @@ fn node_line(
 fn node_lines(
     crew: &impl Crew,
     alloc: Global,
-    read: Read<'_>,
+    format: Format,
+    text: &[u8],
     graph: &Graph,
     plan: &Plan,
     kind: Kind,
     order: Option<LabelOrder>,
 ) -> Result<Vec<NodeText>, AllocError>
-    requires read { IsRead read graph.now }
+    requires read { IsRead format text.now graph.now }
     requires over { plan.now.topology ≡ topology_of_graph graph.now }
     ensures { IfOk result (λ made. AllZip (λ k one. IsNodeLine graph.now plan.now kind order k (bytes_made one))
         (range_with_len 0 (node_count plan.now.topology)) made.items) }
@@ -64,10 +59,10 @@ fn node_lines(
         plan.nodes(),
         LEAST_FAILURES,
         &|k: usize| -> Result<NodeText, AllocError>
-            requires { (k < length graph.now) × IsRead read graph.now × (plan.now.topology ≡ topology_of_graph graph.now) }
+            requires { (k < length graph.now) × IsRead format text.now graph.now × (plan.now.topology ≡ topology_of_graph graph.now) }
             ensures { IfOk result (λ made. IsNodeLine graph.entry.now plan.entry.now kind order k
                 (bytes_made made)) }
-        { node_line(alloc, read, graph, plan, kind, order, k) },
+        { node_line(alloc, format, text, graph, plan, kind, order, k) },
     )
 }
 
@@ -75,16 +70,17 @@ fn node_lines(
 pub fn node_failures(
     crew: &impl Crew,
     alloc: Global,
-    read: Read<'_>,
+    format: Format,
+    text: &[u8],
     graph: &Graph,
     plan: &Plan,
     kind: Kind,
     order: Option<LabelOrder>,
 ) -> Result<String, AllocError>
-    requires read { IsRead read graph.now }
+    requires read { IsRead format text.now graph.now }
     requires over { plan.now.topology ≡ topology_of_graph graph.now }
     ensures { IfOk result (λ text. AreNodeFailures graph.now plan.now kind order (string_bytes text)) }
 {
-    let lines = node_lines(crew, alloc, read, graph, plan, kind, order)?;
+    let lines = node_lines(crew, alloc, format, text, graph, plan, kind, order)?;
     node_failures_text(alloc, graph, plan, kind, order, lines.as_slice())
 }

@@ -12,9 +12,9 @@ ghost use Rattle.ir_show.specs.Plans.{NeedsNoTour};
 ghost use Rattle.ir_answer.specs.Plans.{AnswersText};
 ghost use Rattle.ir_cli.specs.{Kinds.detour_of, Openings.kind_asked, Reading.texts_of, Words.{FitsItsKind, takes_list}};
 
-use crate::failing::{Read, node_failures};
+use crate::failing::node_failures;
 use crate::asking::{AnswerStop, opening_stop, read_graph, read_node};
-use ir_cli::{Notice, RunReply, Sub, Words, kind_asked, label_order, no_root};
+use ir_cli::{Format, Notice, RunReply, Sub, Words, kind_asked, label_order, no_root};
 use ir_core::OpenError;
 use ir_exports::{
     circle_dot, circle_svg, lines_bytes, lines_text, order_text, prefixes_text_by, ranges_text,
@@ -546,23 +546,25 @@ fn node_failures_in(show: Show) -> Option<(Kind, Option<LabelOrder>)>
 fn show_node_failures(
     crew: &impl Crew,
     alloc: Global,
-    read: Read<'_>,
+    format: Format,
+    text: &[u8],
     kind: Kind,
     graph: &Graph,
     labels: Labels,
     left: (Kind, Option<LabelOrder>),
 ) -> Result<RunReply, AnswerStop>
     requires labels { MayLabel (topology_of_graph graph.now) kind (labelling_of labels) }
-    requires read { IsRead read graph.now }
+    requires read { IsRead format text.now graph.now }
     ensures { Gives (AnswersShow kind graph.now (labelling_of labels) (Show.EachNode left.0 left.1)) result }
 {
     match plan_of(crew, alloc, kind, graph, labels) {
         Ok(plan) => {
             let (left, order) = left;
-            let Ok(text) = node_failures(crew, alloc, read, graph, &plan, left, order) else {
+            let Ok(told) = node_failures(crew, alloc, format, text, graph, &plan, left, order)
+            else {
                 return Err(AnswerStop::NoMemory);
             };
-            Ok(RunReply::Ran(text, Vec::new(alloc)))
+            Ok(RunReply::Ran(told, Vec::new(alloc)))
         }
         Err(stop) => Err(stop),
     }
@@ -572,7 +574,8 @@ fn show_node_failures(
 fn show_read(
     crew: &impl Crew,
     alloc: Global,
-    read: Read<'_>,
+    format: Format,
+    text: &[u8],
     kind: Kind,
     graph: Graph,
     labels: Labels,
@@ -580,11 +583,11 @@ fn show_read(
 ) -> Result<RunReply, AnswerStop>
     requires labels { MayLabel (topology_of_graph graph) kind (labelling_of labels) }
     requires ends { 0 < length graph → AreAmong (length graph) show }
-    requires read { IsRead read graph }
+    requires read { IsRead format text.now graph }
     ensures { Gives (AnswersShow kind graph (labelling_of labels) show) result }
 {
     match node_failures_in(show) {
-        Some(left) => show_node_failures(crew, alloc, read, kind, &graph, labels, left),
+        Some(left) => show_node_failures(crew, alloc, format, text, kind, &graph, labels, left),
         None => show_plan(crew, alloc, kind, graph, labels, show),
     }
 }
@@ -617,11 +620,8 @@ pub fn look_at(
     let kind = kind_over(words, &graph);
     match read_show(sub, words, &graph) {
         Ok(show) => {
-            let read = Read {
-                format: words.format,
-                text: topology,
-            };
-            show_read(crew, alloc, read, kind, graph, labels, show)
+            let format = words.format;
+            show_read(crew, alloc, format, topology, kind, graph, labels, show)
         }
         Err(stop) => Err(stop),
     }

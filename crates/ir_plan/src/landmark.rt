@@ -7,6 +7,8 @@ ghost use Rattle.ir_model.specs.Plan.{AreLabels};
 ghost use Rattle.ir_bounds.specs.Detours.{AreDetourBounds};
 ghost use Rattle.ir_plan.specs.NodeRows.{IsNodeRow};
 
+use crate::crew::Alone;
+use crate::near::bounds_by_crew;
 use ir_bounds::LandmarkBounds;
 use ir_lookup::Row;
 use ir_model::Detour;
@@ -33,7 +35,7 @@ pub fn landmark_row(
     match bounds {
         Some(held) => held.row(alloc, topology, numbering, u),
         None => {
-            let sought = LandmarkBounds::of(alloc, topology, numbering.node_of(0), detour)?;
+            let sought = bounds_by_crew(&Alone, alloc, topology, numbering.node_of(0), detour)?;
             sought.row(alloc, topology, numbering, u)
         }
     }

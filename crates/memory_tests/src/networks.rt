@@ -54,6 +54,7 @@ pub(crate) fn opening(alloc: Global, capacity: usize) -> Result<Opening, &'stati
     Ok(Opening {
         topology: path(alloc)?,
         labels: LabelOrder::Tour,
+        keeps: false,
         kind: Kind::Tree,
         root: 1,
         capacity,

@@ -1,9 +1,9 @@
-use Rattle.std.proofs.Common.{◌≡◌, ◌≢◌, ◌<◌, ◌≤◌, ◌+◌, ◌==◌, ℕ, List, Bool, true, false, None, Some, Option, length, slice_index, slice_index_or, set, subst, sym, ap, ◌∙◌, refl, inl, inr, arith, length-set, get_or-set_same, get_or-set_other}
-use Rattle.std.proofs.lemmas.Bool.{cases_eq, cases_lt, eq-eqb, ne_eqb, eqb-true, eqb-false}
+use Rattle.std.proofs.Common.{◌≡◌, ◌≢◌, ◌<◌, ◌+◌, ℕ, List, None, Some, length, slice_index, slice_index_or, set, subst, sym, ap, ◌∙◌, inl, inr, arith, length-set, get_or-set_same, get_or-set_other}
+use Rattle.std.proofs.lemmas.Bool.{cases_eq, eq-eqb, ne_eqb}
 use Rattle.std.proofs.lemmas.Grind.{get_or_default_zero}
 use Rattle.ir_model.specs.Row.{Start, labels, start_ports, IsPlaceOf}
 use Rattle.ir_model.specs.Topology.{node_count}
-use Rattle.ir_model.specs.Plan.{row_in, table_port, node_in, label_in}
+use Rattle.ir_model.specs.Plan.{row_in, table_port, node_in}
 use Rattle.ir_figures.proofs.Columns.{own_port, other_port}
 use Rattle.ir_figures.proofs.column.read_column.Goals as goal
 

@@ -1,4 +1,4 @@
-use Rattle.std.proofs.Common.{◌∙◌, ◌++◌, List, ℕ, flat_map, ap, string_bytes}
+use Rattle.std.proofs.Common.{◌∙◌, ◌++◌, List, ℕ, flat_map, ap}
 use Rattle.ir_show.specs.Words.{line_text}
 use Rattle.ir_figures.specs.Failures.{failures_head}
 use Rattle.ir_figures.specs.Made.{bytes_made}

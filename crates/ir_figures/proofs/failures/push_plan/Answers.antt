@@ -1,9 +1,8 @@
 use Rattle.std.proofs.Common.{inl, inr, ◌∷◌, [], codes, refl, subst}
 use Rattle.ir_plan.specs.Building.{RefusesPlan, labelling_of}
 use Rattle.ir_plan.specs.declared.error.PlanError.{PlanError}
-use Rattle.ir_plan.specs.declared.error.PlanError.TheVariants.{NoNode, Empty, Disconnected}
+use Rattle.ir_plan.specs.declared.error.PlanError.TheVariants.{Empty, Disconnected}
 use Rattle.ir_figures.proofs.Results.{on_ok_then}
-use Rattle.ir_figures.proofs.FailureLines.{no_root_twice}
 use Rattle.ir_figures.proofs.failures.push_plan.Goals as goal
 
 pub returns-in-Ok : goal.returns-in-Ok

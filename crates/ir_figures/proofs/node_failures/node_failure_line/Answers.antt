@@ -14,7 +14,7 @@ use Rattle.ir_figures.proofs.FailureLines.{one_told, words_over}
 use Rattle.ir_figures.proofs.NodesLeft.{may_label_without, has_root_without}
 use Rattle.ir_figures.proofs.node_failures.node_failure_line.Goals as goal
 
-pub network_without-requires : goal.network_without-left-requires
+pub network_without-requires : goal.network_without-requires
 network_without-requires c =
     let g = c.args.graph.now in
     let x : Name = name_at (names g) c.args.k in

@@ -1,4 +1,4 @@
-use Rattle.std.proofs.Common.{◌∙◌, ◌++◌, List, ℕ, codes, map, flat_map, ap}
+use Rattle.std.proofs.Common.{◌∙◌, ◌++◌, List, ℕ, codes, map, ap}
 use Rattle.std.specs.List.{range_with_len}
 use Rattle.ir_model.specs.Topology.{node_count}
 use Rattle.ir_show.specs.Words.{line_text}

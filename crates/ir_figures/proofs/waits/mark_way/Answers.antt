@@ -1,8 +1,8 @@
-use Rattle.std.proofs.Common.{◌≡◌, ◌+◌, ◌<◌, ℕ, List, Bool, true, [], None, Some, length, set, slice_index, slice_index_or, ap, sym, subst, ◌∙◌, arith}
+use Rattle.std.proofs.Common.{◌≡◌, ◌+◌, ◌<◌, ℕ, List, Bool, true, [], None, Some, length, set, slice_index_or, ap, sym, subst, ◌∙◌, arith}
 use Rattle.std.specs.Global.{Vec}
 use Rattle.std.proofs.lemmas.List.{get_or_read, map-set}
 use Rattle.ir_model.specs.declared.Hop.{Hop}
-use Rattle.ir_model.specs.Topology.{node_count, ports_of, port_at}
+use Rattle.ir_model.specs.Topology.{node_count, port_at}
 use Rattle.ir_model.specs.Plan.{table_port, node_in}
 use Rattle.ir_model.proofs.Walks.{port_facts}
 use Rattle.ir_figures.specs.Arcs.{marks_of}
