@@ -14,7 +14,9 @@ ghost use Rattle.ir_answer.specs.Stops.{StopsAs, Gives};
 
 use crate::asking::{AnswerStop, opening_stop, read_graph};
 use crate::look::read_labels;
-use ir_cli::{Format, KindChoice, Notice, NumberingChoice, RunReply, Words, kind_asked, read_topology};
+use ir_cli::{
+    Format, KindChoice, Notice, NumberingChoice, RunReply, Words, kind_asked, read_topology,
+};
 use ir_core::OpenError;
 use ir_exports::order_text;
 use ir_graph::Graph;

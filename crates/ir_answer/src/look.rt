@@ -12,8 +12,8 @@ ghost use Rattle.ir_show.specs.Plans.{NeedsNoTour};
 ghost use Rattle.ir_answer.specs.Plans.{AnswersText};
 ghost use Rattle.ir_cli.specs.{Kinds.detour_of, Openings.kind_asked, Reading.texts_of, Words.{FitsItsKind, takes_list}};
 
-use crate::failing::node_failures;
 use crate::asking::{AnswerStop, opening_stop, read_graph, read_node};
+use crate::failing::node_failures;
 use ir_cli::{Format, Notice, RunReply, Sub, Words, kind_asked, label_order, no_root};
 use ir_core::OpenError;
 use ir_exports::{

@@ -22,7 +22,7 @@ use Rattle.ir_tables.specs.FromNode.{AreFrom}
 use Rattle.ir_compile.specs.PortBits.{HasPortBit, MayTakeBit}
 use Rattle.ir_compile.proofs.PortBits.{has_some}
 use Rattle.ir_bounds.specs.Around.{AreSlots, AreAways}
-use Rattle.ir_bounds.specs.Near.{IsWayRound, AreNear}
+use Rattle.ir_bounds.specs.Near.{IsWayRound, AreNearBounds}
 use Rattle.ir_bounds.specs.Rows.{MayTakePort}
 use Rattle.ir_bounds.specs.Words.{LeadsBy, IsLedWord, AreLedWords, IsWordBy, AreSettled, HaveOthers, AreWordsUpTo}
 
@@ -190,7 +190,7 @@ module _ (net : Topology) (ok : IsTopology net) (landmarks : List ℕ) (stretch 
 
   module _ (order labels : List ℕ) (named : AreLabels (node_count net) order labels) (u : ℕ) where
     -- before the first of the near nodes
-    pub own_begun : (count : ℕ) (node number : ℕ → ℕ) (words : List ℕ) → AreNear net landmarks stretch u count node number → AreLedWords net (IsWayRound net landmarks) (IsWayRound net landmarks) order u words
+    pub own_begun : (count : ℕ) (node number : ℕ → ℕ) (words : List ℕ) → AreNearBounds net landmarks stretch u count node number → AreLedWords net (IsWayRound net landmarks) (IsWayRound net landmarks) order u words
         → AreSettled (node_count net) order node count 0 (λ a word. IsLedWord net (IsWayRound net landmarks) (IsLandmarkBound net landmarks stretch) u (slice_index order a) word) words
     own_begun count node number words near led = record {
       every = led.every;
@@ -204,7 +204,7 @@ module _ (net : Topology) (ok : IsTopology net) (landmarks : List ℕ) (stretch 
           ];
     }
 
-    pub port_begun : (p count : ℕ) (hop : Hop) (node number : ℕ → ℕ) (words : List ℕ) → p < 32 → port_at net u p ≡ Some hop → AreNear net landmarks stretch hop.node count node number
+    pub port_begun : (p count : ℕ) (hop : Hop) (node number : ℕ → ℕ) (words : List ℕ) → p < 32 → port_at net u p ≡ Some hop → AreNearBounds net landmarks stretch hop.node count node number
         → AreWordsUpTo net (IsWayRound net landmarks) (IsLandmarkBound net landmarks stretch) order u p words
         → AreSettled (node_count net) order node count 0 (λ a word. HasPortBit word p ↔ LeadsBy net (IsLandmarkBound net landmarks stretch) (IsLandmarkBound net landmarks stretch) u (slice_index order a) p) words
     port_begun p count hop node number words low at near are = record {

@@ -11,7 +11,7 @@ use Rattle.ir_model.proofs.Landmarks.{landmark_unique}
 use Rattle.ir_bounds.specs.Bounds.{held_lists, AreBoundsFrom}
 use Rattle.ir_bounds.specs.Around.{AreDistancesIn}
 use Rattle.ir_bounds.proofs.Numbers.{list_at}
-use Rattle.ir_bounds.specs.Near.{number_in, has_all, part_end, entry_node, entry_bound, begin_of, IsWayRound, AreWaysRound, AreNear, AreNearAt, IsNearPart, AreNearParts, IsNearBatch, AreNearBatches}
+use Rattle.ir_bounds.specs.Near.{halved_at, has_all, part_end, entry_node, entry_bound, begin_of, IsWayRound, AreWaysRound, AreNearBounds, AreNearAt, IsNearPart, AreNearParts, IsNearBatch, AreNearBatches}
 use Rattle.ir_bounds.specs.Entries.{AreNearEntries, AreAllEntries, ArePut}
 
 after_head : (b y l : ℕ) → b + 2 + y ≤ l → b + 1 < l
@@ -41,7 +41,7 @@ module _ (xs zs : List ℕ) (s b c : ℕ) (moved : c ≡ s + b) (same : (i k : �
   pub end_moved : part_end zs c ≡ s + part_end xs b
   end_moved = moved_end c s b (size (slice_index zs (c + 1)) (slice_index zs c)) (size (slice_index xs (b + 1)) (slice_index xs b)) moved (ap (λ (t : ℕ). size t (slice_index zs c)) flag ∙ ap (size (slice_index xs (b + 1))) count)
 
-  number_moved : (i k : ℕ) → i + 1 < length xs → k ≡ s + i → number_in zs k ≡ number_in xs i
+  number_moved : (i k : ℕ) → i + 1 < length xs → k ≡ s + i → halved_at zs k ≡ halved_at xs i
   number_moved i k lt e =
       let low = same i k (omega (arith, lt)) e in
       let high = same (i + 1) (k + 1) lt (omega (arith, e)) in
@@ -52,7 +52,7 @@ module _ (xs zs : List ℕ) (s b c : ℕ) (moved : c ≡ s + b) (same : (i k : �
   node_by false n j h lt = same (b + 2 + 3 * j + 2) (c + 2 + 3 * j + 2) (omega (arith, h, lt)) (omega (arith, moved))
 
   bound_by : (t : Bool) (n j : ℕ) → b + 2 + (if t then 2 * n else 3 * n) ≤ length xs → j < n
-      → (if t then number_in zs (c + 2 + 2 * j) else number_in zs (c + 2 + 3 * j)) ≡ (if t then number_in xs (b + 2 + 2 * j) else number_in xs (b + 2 + 3 * j))
+      → (if t then halved_at zs (c + 2 + 2 * j) else halved_at zs (c + 2 + 3 * j)) ≡ (if t then halved_at xs (b + 2 + 2 * j) else halved_at xs (b + 2 + 3 * j))
   bound_by true n j h lt = number_moved (b + 2 + 2 * j) (c + 2 + 2 * j) (omega (arith, h, lt)) (omega (arith, moved))
   bound_by false n j h lt = number_moved (b + 2 + 3 * j) (c + 2 + 3 * j) (omega (arith, h, lt)) (omega (arith, moved))
 
@@ -60,9 +60,9 @@ module _ (xs zs : List ℕ) (s b c : ℕ) (moved : c ≡ s + b) (same : (i k : �
   node_moved j lt = ap (λ (t : ℕ). if t == 2 then j else slice_index zs (c + 2 + 3 * j + 2)) flag ∙ node_by (has_all xs b) (slice_index xs b) j inside lt
 
   bound_moved : (j : ℕ) → j < slice_index xs b → entry_bound zs c j ≡ entry_bound xs b j
-  bound_moved j lt = ap (λ (t : ℕ). if t == 2 then number_in zs (c + 2 + 2 * j) else number_in zs (c + 2 + 3 * j)) flag ∙ bound_by (has_all xs b) (slice_index xs b) j inside lt
+  bound_moved j lt = ap (λ (t : ℕ). if t == 2 then halved_at zs (c + 2 + 2 * j) else halved_at zs (c + 2 + 3 * j)) flag ∙ bound_by (has_all xs b) (slice_index xs b) j inside lt
 
-  pub near_moved : (net : Topology) (landmarks : List ℕ) (stretch u : ℕ) → s + length xs ≤ length zs → AreNear net landmarks stretch u (slice_index xs b) (entry_node xs b) (entry_bound xs b) → AreNearAt net landmarks stretch u zs c
+  pub near_moved : (net : Topology) (landmarks : List ℕ) (stretch u : ℕ) → s + length xs ≤ length zs → AreNearBounds net landmarks stretch u (slice_index xs b) (entry_node xs b) (entry_bound xs b) → AreNearAt net landmarks stretch u zs c
   near_moved net landmarks stretch u room near = record {
     within = let e = end_moved in omega (arith, e, inside, room);
     near = record {
@@ -114,13 +114,13 @@ module _ (xs ys : List ℕ) where
       }
 
 -- the numbers of a list to which others are put
-number_stays : (xs ys : List ℕ) (i : ℕ) → i + 1 < length xs → number_in (xs ++ ys) i ≡ number_in xs i
+number_stays : (xs ys : List ℕ) (i : ℕ) → i + 1 < length xs → halved_at (xs ++ ys) i ≡ halved_at xs i
 number_stays xs ys i lt =
     let low = get_or_append_left xs ys 0 i (omega (arith, lt)) in
     let high = get_or_append_left xs ys 0 (i + 1) lt in
     omega (arith, low, high)
 
-number_put : (xs : List ℕ) (low high i : ℕ) (ys : List ℕ) → i ≡ length xs → number_in (xs ++ (low ∷ high ∷ ys)) i ≡ low + 65536 * high
+number_put : (xs : List ℕ) (low high i : ℕ) (ys : List ℕ) → i ≡ length xs → halved_at (xs ++ (low ∷ high ∷ ys)) i ≡ low + 65536 * high
 number_put xs low high i ys e =
     let a : slice_index (xs ++ (low ∷ high ∷ ys)) i ≡ low = follows xs (low ∷ high ∷ ys) 0 i (omega arith) (omega (arith, e)) in
     let b : slice_index (xs ++ (low ∷ high ∷ ys)) (i + 1) ≡ high = follows xs (low ∷ high ∷ ys) 1 (i + 1) (omega arith) (omega (arith, e)) in
@@ -136,14 +136,14 @@ module _ (net : Topology) (landmarks : List ℕ) (stretch u : ℕ) where
       let flat : more ≡ xs ++ ys = is ∙ append_assoc xs (low ∷ high ∷ []) (i ∷ []) in
       let old : (j : ℕ) → j < count → slice_index (xs ++ ys) (3 * j + 2) ≡ slice_index xs (3 * j + 2) = λ j lt. stays xs ys (3 * j + 2) (3 * j + 2) (omega (arith, lt, before.long)) (omega arith) in
       let node : slice_index (xs ++ ys) (3 * count + 2) ≡ i = follows xs ys 2 (3 * count + 2) (omega arith) (omega (arith, before.long)) in
-      let put : number_in (xs ++ ys) (3 * count) ≡ number = number_put xs low high (3 * count) (i ∷ []) (omega (arith, before.long)) ∙ sym halves in
+      let put : halved_at (xs ++ ys) (3 * count) ≡ number = number_put xs low high (3 * count) (i ∷ []) (omega (arith, before.long)) ∙ sym halves in
       rw flat
       (record {
         long = let e = length-append xs ys in omega (arith, e, before.long);
         few = omega (arith, before.few);
         each = λ j lt.
             elim (cases_eq j count) [
-              | inl e ↦ subst (λ (x : ℕ). (slice_index (xs ++ ys) (3 * x + 2) < i + 1) × IsLandmarkBound net landmarks stretch u (slice_index (xs ++ ys) (3 * x + 2)) (number_in (xs ++ ys) (3 * x))) (sym e) (omega (arith, node), rw (node, put) bound)
+              | inl e ↦ subst (λ (x : ℕ). (slice_index (xs ++ ys) (3 * x + 2) < i + 1) × IsLandmarkBound net landmarks stretch u (slice_index (xs ++ ys) (3 * x + 2)) (halved_at (xs ++ ys) (3 * x))) (sym e) (omega (arith, node), rw (node, put) bound)
               | inr ne ↦
                   let l : j < count = omega (arith, lt, ne) in
                   let at = before.each j l in
@@ -177,13 +177,13 @@ module _ (net : Topology) (landmarks : List ℕ) (stretch u : ℕ) where
       → AreAllEntries net landmarks stretch u (i + 1) more
   all_taken i number low high xs more before is halves bound =
       let ys : List ℕ = low ∷ high ∷ [] in
-      let put : number_in (xs ++ ys) (2 * i) ≡ number = number_put xs low high (2 * i) [] (omega (arith, before.long)) ∙ sym halves in
+      let put : halved_at (xs ++ ys) (2 * i) ≡ number = number_put xs low high (2 * i) [] (omega (arith, before.long)) ∙ sym halves in
       rw is
       (record {
         long = let e = length-append xs ys in omega (arith, e, before.long);
         each = λ d lt.
             elim (cases_eq d i) [
-              | inl e ↦ subst (λ (x : ℕ). IsLandmarkBound net landmarks stretch u x (number_in (xs ++ ys) (2 * x))) (sym e) (rw put bound)
+              | inl e ↦ subst (λ (x : ℕ). IsLandmarkBound net landmarks stretch u x (halved_at (xs ++ ys) (2 * x))) (sym e) (rw put bound)
               | inr ne ↦
                   let l : d < i = omega (arith, lt, ne) in
                   let number_same = number_stays xs ys (2 * d) (omega (arith, l, before.long)) in
@@ -198,7 +198,7 @@ module _ (net : Topology) (landmarks : List ℕ) (stretch u : ℕ) where
       let at : (i k : ℕ) → k ≡ 2 + i → slice_index made k ≡ slice_index xs i = λ i k e. ap (slice_index made) e ∙ get_or-append-add (count ∷ 3 ∷ []) xs i 0 in
       let long : 0 + 2 + 3 * count ≡ length made = omega (arith, are.long) in
       let node : (j : ℕ) → slice_index made (0 + 2 + 3 * j + 2) ≡ slice_index xs (3 * j + 2) = λ j. at (3 * j + 2) (0 + 2 + 3 * j + 2) (omega arith) in
-      let number : (j : ℕ) → number_in made (0 + 2 + 3 * j) ≡ number_in xs (3 * j) = λ j. (let a = at (3 * j) (0 + 2 + 3 * j) (omega arith) in let b = at (3 * j + 1) (0 + 2 + 3 * j + 1) (omega arith) in omega (arith, a, b)) in
+      let number : (j : ℕ) → halved_at made (0 + 2 + 3 * j) ≡ halved_at xs (3 * j) = λ j. (let a = at (3 * j) (0 + 2 + 3 * j) (omega arith) in let b = at (3 * j + 1) (0 + 2 + 3 * j + 1) (omega arith) in omega (arith, a, b)) in
       rw is
       (record {
         at = record {
@@ -216,7 +216,7 @@ module _ (net : Topology) (landmarks : List ℕ) (stretch u : ℕ) where
       let made : List ℕ = n ∷ 2 ∷ xs in
       let at : (i k : ℕ) → k ≡ 2 + i → slice_index made k ≡ slice_index xs i = λ i k e. ap (slice_index made) e ∙ get_or-append-add (n ∷ 2 ∷ []) xs i 0 in
       let long : 0 + 2 + 2 * n ≡ length made = omega (arith, are.long, every) in
-      let number : (j : ℕ) → number_in made (0 + 2 + 2 * j) ≡ number_in xs (2 * j) = λ j. (let a = at (2 * j) (0 + 2 + 2 * j) (omega arith) in let b = at (2 * j + 1) (0 + 2 + 2 * j + 1) (omega arith) in omega (arith, a, b)) in
+      let number : (j : ℕ) → halved_at made (0 + 2 + 2 * j) ≡ halved_at xs (2 * j) = λ j. (let a = at (2 * j) (0 + 2 + 2 * j) (omega arith) in let b = at (2 * j + 1) (0 + 2 + 2 * j + 1) (omega arith) in omega (arith, a, b)) in
       rw is
       (record {
         at = record {

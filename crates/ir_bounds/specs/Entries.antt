@@ -2,19 +2,19 @@
 use Rattle.std.specs.Prelude.{◌≡◌, ◌≢◌, ◌⊎◌, ℕ, ◌+◌, ◌*◌, ◌<◌, ◌≤◌, List, length, slice_index}
 use Rattle.ir_model.specs.Topology.{Topology}
 use Rattle.ir_model.specs.Landmark.{IsLandmarkBound}
-use Rattle.ir_bounds.specs.Near.{IsWayRound, number_in, entry_node, entry_bound}
+use Rattle.ir_bounds.specs.Near.{IsWayRound, halved_at, entry_node, entry_bound}
 
 -- so many entries with names: of the first i nodes those to which the bound from u may be less than the way round
 pub record AreNearEntries (net : Topology) (landmarks : List ℕ) (stretch u i count : ℕ) (xs : List ℕ) : Type 0 where
   pub long : length xs ≡ 3 * count
   pub few : count ≤ i
-  pub each : (j : ℕ) → j < count → (slice_index xs (3 * j + 2) < i) × IsLandmarkBound net landmarks stretch u (slice_index xs (3 * j + 2)) (number_in xs (3 * j))
+  pub each : (j : ℕ) → j < count → (slice_index xs (3 * j + 2) < i) × IsLandmarkBound net landmarks stretch u (slice_index xs (3 * j + 2)) (halved_at xs (3 * j))
   pub rest : (d : ℕ) → d < i → ((way : ℕ) → IsWayRound net landmarks u d way → IsLandmarkBound net landmarks stretch u d way) ⊎ ((j : ℕ) × (j < count) × (slice_index xs (3 * j + 2) ≡ d))
 
 -- the bounds from u to the first i nodes
 pub record AreAllEntries (net : Topology) (landmarks : List ℕ) (stretch u i : ℕ) (xs : List ℕ) : Type 0 where
   pub long : length xs ≡ 2 * i
-  pub each : (d : ℕ) → d < i → IsLandmarkBound net landmarks stretch u d (number_in xs (2 * d))
+  pub each : (d : ℕ) → d < i → IsLandmarkBound net landmarks stretch u d (halved_at xs (2 * d))
 
 -- at the node of each of the first i entries of a part is the bound of one to it, and at other places what was there
 abbrev pub ArePutAt : List ℕ → ℕ → ℕ → List ℕ → List ℕ → ℕ → Type 0

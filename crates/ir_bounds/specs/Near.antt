@@ -1,5 +1,5 @@
--- The bounds of a node to those that are near to it, in lists of numbers of 16 bits; and the ways round, which are the bounds
--- to the others.
+-- The bounds of a node to those that are near to it, in lists of numbers of 16 bits; and the ways round, which are the
+-- bounds to the others.
 use Rattle.std.specs.Prelude.{◌≡◌, ◌⊎◌, ℕ, zero, suc, ◌+◌, ◌-◌, ◌*◌, ◌<◌, ◌≤◌, ◌==◌, Bool, min, if◌then◌else◌, List, [], length, slice_index, slice_index_or}
 use Rattle.ir_model.specs.Topology.{Topology, node_count}
 use Rattle.ir_model.specs.Walk.{IsDistance}
@@ -20,11 +20,11 @@ pub record AreWaysRound (net : Topology) (landmarks : List ℕ) (u : ℕ) (row :
   pub each : (d : ℕ) → d < node_count net → IsWayRound net landmarks u d (slice_index row d)
 
 -- the number at a place, in two halves, the low one first
-abbrev pub number_in : List ℕ → ℕ → ℕ
-number_in xs i = slice_index xs i + 65536 * slice_index xs (i + 1)
+abbrev pub halved_at : List ℕ → ℕ → ℕ
+halved_at xs i = slice_index xs i + 65536 * slice_index xs (i + 1)
 
--- A part of a list has the number of its entries, the size of each, and these. An entry is a bound in two halves, and after
--- it the node; entries of size 2 are those of all nodes, in order.
+-- A part of a list has the number of its entries, the size of each, and these. An entry is a bound in two halves, and
+-- after it the node; entries of size 2 are those of all nodes, in order.
 abbrev pub has_all : List ℕ → ℕ → Bool
 has_all xs b = slice_index xs (b + 1) == 2
 
@@ -37,7 +37,7 @@ abbrev pub entry_node : List ℕ → ℕ → ℕ → ℕ
 entry_node xs b j = if has_all xs b then j else slice_index xs (b + 2 + 3 * j + 2)
 
 abbrev pub entry_bound : List ℕ → ℕ → ℕ → ℕ
-entry_bound xs b j = if has_all xs b then number_in xs (b + 2 + 2 * j) else number_in xs (b + 2 + 3 * j)
+entry_bound xs b j = if has_all xs b then halved_at xs (b + 2 + 2 * j) else halved_at xs (b + 2 + 3 * j)
 
 -- where the part after so many begins
 abbrev pub begin_of : List ℕ → ℕ → ℕ
@@ -45,14 +45,14 @@ begin_of xs zero = 0
 begin_of xs (suc k) = part_end xs (begin_of xs k)
 
 -- so many nodes and bounds are those from u to them, and to each other node the bound is the way round
-pub record AreNear (net : Topology) (landmarks : List ℕ) (stretch u count : ℕ) (node bound : ℕ → ℕ) : Type 0 where
+pub record AreNearBounds (net : Topology) (landmarks : List ℕ) (stretch u count : ℕ) (node bound : ℕ → ℕ) : Type 0 where
   pub each : (j : ℕ) → j < count → (node j < node_count net) × IsLandmarkBound net landmarks stretch u (node j) (bound j)
   pub rest : (d : ℕ) → d < node_count net → ((way : ℕ) → IsWayRound net landmarks u d way → IsLandmarkBound net landmarks stretch u d way) ⊎ ((j : ℕ) × (j < count) × (node j ≡ d))
 
 -- such are the entries of the part that begins at b
 pub record AreNearAt (net : Topology) (landmarks : List ℕ) (stretch u : ℕ) (xs : List ℕ) (b : ℕ) : Type 0 where
   pub within : part_end xs b ≤ length xs
-  pub near : AreNear net landmarks stretch u (slice_index xs b) (entry_node xs b) (entry_bound xs b)
+  pub near : AreNearBounds net landmarks stretch u (slice_index xs b) (entry_node xs b) (entry_bound xs b)
 
 -- a list of one part, that of u
 pub record IsNearPart (net : Topology) (landmarks : List ℕ) (stretch u : ℕ) (part : List ℕ) : Type 0 where

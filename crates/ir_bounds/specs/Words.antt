@@ -18,7 +18,7 @@ pub record AreLedWords (net : Topology) (rest whole : ℕ → ℕ → ℕ → Ty
   pub every : length words ≡ node_count net
   pub each : (a : ℕ) → a < node_count net → IsLedWord net rest whole u (slice_index order a) (slice_index words a)
 
--- the bits are those of the first m ports for which the weight, the way of a list from there, and a radius are at most a number
+-- the bits are those of the first m ports for which the weight, the way from there and a radius are at most a number
 abbrev pub IsWordBy : Topology → List ℕ → ℕ → ℕ → ℕ → ℕ → ℕ → Type 0
 IsWordBy net away radius whole u m word =
     (p : ℕ) → p < 32 → HasPortBit word p ↔ ((p < m) × ((hop : Hop) × (port_at net u p ≡ Some hop) × (hop.weight + (slice_index away hop.node + radius) ≤ whole)))

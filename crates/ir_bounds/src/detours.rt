@@ -181,8 +181,8 @@ fn put_bounds(list: &[u16], begin: usize, row: &mut [u32])
     }
 }
 
-/// The landmarks that a root and a detour choose in a connected network, and what they are to each node. It is refused for
-/// memory alone. Takes as long as `most_linked` and `Owners::of`.
+/// The landmarks that a root and a detour choose in a connected network, and what they are to each node. It is refused
+/// for memory alone. Takes as long as `most_linked` and `Owners::of`.
 pub fn chosen_owners(
     alloc: Global,
     topology: &Topology,

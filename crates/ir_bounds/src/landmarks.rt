@@ -11,8 +11,8 @@ ghost use Rattle.ir_bounds.specs.Near.{AreWaysRound};
 use ir_tables::{Outward, Topology};
 use std::alloc::{AllocError, Global};
 
-/// Landmarks, and the landmark of each node and how far it is. The distances are those from each landmark, and the slots
-/// have at each landmark where its distances are.
+/// Landmarks, and the landmark of each node and how far it is. The distances are those from each landmark, and the
+/// slots have at each landmark where its distances are.
 #[derive(Drop)]
 pub struct Owners {
     pub landmarks: Vec<u16>,
@@ -58,8 +58,8 @@ impl Owners {
         })
     }
 
-    /// The weights of the ways from a node to each by the landmark there. It is refused for memory alone. Takes O(n), for n
-    /// nodes.
+    /// The weights of the ways from a node to each by the landmark there. It is refused for memory alone. Takes O(n),
+    /// for n nodes.
     pub fn ways_round(
         &self,
         alloc: Global,

@@ -5,7 +5,7 @@ ghost use Rattle.ir_model.specs.{Topology.node_count, Walk.IsConnected};
 ghost use Rattle.ir_model.specs.Landmark.{bound_by, is_far};
 ghost use Rattle.ir_tables.specs.FromNode.{AreFrom};
 ghost use Rattle.ir_bounds.specs.Bounds.{AreOwners};
-ghost use Rattle.ir_bounds.specs.Near.{IsNearBatch, IsNearPart, begin_of, entry_bound, entry_node, number_in, part_end};
+ghost use Rattle.ir_bounds.specs.Near.{IsNearBatch, IsNearPart, begin_of, entry_bound, entry_node, halved_at, part_end};
 ghost use Rattle.ir_bounds.specs.Entries.{AreAllEntries, AreNearEntries};
 
 use crate::landmarks::Owners;
@@ -203,7 +203,7 @@ pub fn entry(list: &[u16], begin: usize, j: usize) -> (u16, u32)
 // The number of two halves.
 fn number_at(list: &[u16], i: usize) -> u32
     requires { i + 1 < length list.now }
-    ensures { result ≡ number_in list.now i }
+    ensures { result ≡ halved_at list.now i }
 {
     list[i] as u32 + 65_536 * list[i + 1] as u32
 }

@@ -1,5 +1,5 @@
-//! The longest runs of the labels of a node with few ports: the bits of a label's word are the ports that lead within the
-//! bounds to its node.
+//! The longest runs of the labels of a node with few ports: the bits of a label's word are the ports that lead within
+//! the bounds to its node.
 
 ghost use Rattle.std.specs.Prelude.{◌≡◌, ◌≢◌, ◌↔◌, ◌+◌, ◌<◌, ◌≤◌, ℕ, IfOk, IsTrue, length, slice_index};
 ghost use Rattle.ir_model.specs.{Topology.{node_count, ports_of}, Plan.AreLabels, Walk.IsConnected, Landmark.IsLandmarkBound};

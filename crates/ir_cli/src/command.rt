@@ -20,7 +20,13 @@ static FORMATS: [&str; 2] = ["adjlist", "edgelist"];
 
 static KINDS: [&str; 4] = ["tree", "shortest", "compact", "landmark"];
 
-static NUMBERINGS: [&str; 5] = ["depth-first", "tour", "keep", "keep,tour", "keep,depth-first"];
+static NUMBERINGS: [&str; 5] = [
+    "depth-first",
+    "tour",
+    "keep",
+    "keep,tour",
+    "keep,depth-first",
+];
 
 static KEEPINGS: [&str; 3] = ["depth-first", "tour", "keep"];
 

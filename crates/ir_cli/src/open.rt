@@ -55,9 +55,8 @@ pub fn label_order(numbering: &NumberingChoice) -> LabelOrder
 {
     match numbering {
         NumberingChoice::Tour | NumberingChoice::Keep => LabelOrder::Tour,
-        NumberingChoice::DepthFirst
-        | NumberingChoice::KeepDepthFirst
-        | NumberingChoice::File(_) => LabelOrder::DepthFirst,
+        NumberingChoice::DepthFirst | NumberingChoice::KeepDepthFirst | NumberingChoice::File(_) =>
+            LabelOrder::DepthFirst,
     }
 }
 

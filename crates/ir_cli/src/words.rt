@@ -17,7 +17,9 @@ use crate::command::route_command;
 use crate::faults::{asked_fault, fault_of, fault_text};
 use crate::help::Called;
 use crate::kinds::KindChoice;
-use crate::typed::{Chosen, choose, files_of, is_by_node, is_given, is_set, numbering_of, second_of, word_of};
+use crate::typed::{
+    Chosen, choose, files_of, is_by_node, is_given, is_set, numbering_of, second_of, word_of,
+};
 use clap::ArgMatches;
 use clap::error::ErrorKind;
 use std::alloc::{AllocError, AllocFailed, Global};

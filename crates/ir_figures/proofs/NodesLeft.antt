@@ -59,7 +59,7 @@ count_left g k is lt =
     let name : (j : ℕ) → j < length g → get_or (names g) j [] ≡ (get_or g j ([], [])).0 = λ j below. get_or-map (λ (r : Name × Neighbors). r.0) g j ([], []) [] below in
     let here : p (get_or g k ([], [])) ≡ false = ap (λ (y : Name). not (bytes_eq x y)) (sym (name k lt)) ∙ ap not (bytes_eq-same x) in
     let others : (j : ℕ) → j < length g → j ≢ k → p (get_or g j ([], [])) ≡ true =
-        λ j below other. ap (λ (y : Name). not (bytes_eq x y)) (sym (name j below)) ∙ ap not (names_differ g j k is below lt other) in
+    λ j below other. ap (λ (y : Name). not (bytes_eq x y)) (sym (name j below)) ∙ ap not (names_differ g j k is below lt other) in
     let ports = length-map (without_node g x) (λ r. node_ports (without_node g x) r.0 r.1) in
     let rows = length-map {B = Name × Neighbors} (filter p g) (λ (r : Name × Neighbors). (r.0, without r.1 x)) in
     let less = one_less p g ([], []) k lt here others in
@@ -98,16 +98,16 @@ listed_left order labels k n left are lt less =
     let at_in : at < n = are.label k lt in
     let there : get_or order at 0 ≡ k = are.there k lt in
     let others : (j : ℕ) → j < length order → j ≢ at → p (get_or order j 0) ≡ true =
-        λ j below other. ap not (ne_eqb (get_or order j 0) k (λ e. other (sym (are.back j (omega (arith, below, are.every_label))) ∙ ap (λ (u : ℕ). get_or labels u 0) e))) in
+    λ j below other. ap not (ne_eqb (get_or order j 0) k (λ e. other (sym (are.back j (omega (arith, below, are.every_label))) ∙ ap (λ (u : ℕ). get_or labels u 0) e))) in
     let kept = one_less p order 0 at (omega (arith, at_in, are.every_label)) (ap not (eq-eqb (get_or order at 0) k there)) others in
     let passes = filter_passes p order in
     let no_k : (u : ℕ) → p u ≡ true → u ≡ k → ⊥ = λ u pass e. cc (pass, ap not (eq-eqb u k e)) in
     let nodes : All (λ u. u < n) order = λ a d below. omega (arith, get_or_default_zero order a d below, are.node a (omega (arith, below, are.every_label))) in
     let once : AllPairs (λ u v. u ≢ v) order = λ i j d lt within e.
-        let first = get_or_default_zero order i d (omega (arith, lt, within)) in
-        let last = get_or_default_zero order j d within in
-        let labels_same : get_or labels (get_or order i 0) 0 ≡ get_or labels (get_or order j 0) 0 = ap (λ (u : ℕ). get_or labels u 0) (sym first ∙ e ∙ last) in
-        omega (arith, sym (are.back i (omega (arith, lt, within, are.every_label))) ∙ labels_same ∙ are.back j (omega (arith, within, are.every_label)), lt) in
+    let first = get_or_default_zero order i d (omega (arith, lt, within)) in
+    let last = get_or_default_zero order j d within in
+    let labels_same : get_or labels (get_or order i 0) 0 ≡ get_or labels (get_or order j 0) 0 = ap (λ (u : ℕ). get_or labels u 0) (sym first ∙ e ∙ last) in
+    omega (arith, sym (are.back i (omega (arith, lt, within, are.every_label))) ∙ labels_same ∙ are.back j (omega (arith, within, are.every_label)), lt) in
     record {
       every = omega (arith, length-map (filter p order) (number_left k), kept, are.every_label, less);
       nodes = All-map (λ u. u < left) (number_left k) (filter p order) (λ a d below. left_below k (get_or (filter p order) a d) n left lt (All-filter p (λ u. u < n) order nodes a d below) (no_k _ (passes a d below)) less);

@@ -10,7 +10,7 @@ use Rattle.ir_model.specs.Row.{IsPlaceOf}
 not_same : (a b : ℕ) → (a ≡ b → ⊥) → (a < b) ⊎ (b < a)
 not_same a b differ = elim (cases_lt a b) [
   | inl l ↦ inl l
-  | inr g ↦ elim (cases_eq a b) [ | inl e ↦ absurd (differ e) | inr ne ↦ inr (omega (arith, g, ne)) ]
+  | inr g ↦ elim (cases_eq a b) [ inl e ↦ absurd (differ e) | inr ne ↦ inr (omega (arith, g, ne)) ]
 ]
 
 pub place_first : (xs : List ℕ) → IsStrictlyIncreasing xs → 0 < length xs → (k : ℕ) → ((1 < length xs) × (0 < slice_index xs 0) × (k + 1 ≡ length xs)) ⊎ (((length xs ≤ 1) ⊎ (slice_index xs 0 ≡ 0)) × (k ≡ 0))
@@ -50,7 +50,7 @@ place_next xs up a k next place (inl (more, e)) = (
       let above : a + 1 < slice_index xs (k + 1) = omega (arith, place.to more, not_same (slice_index xs (k + 1)) (a + 1) (λ same. other (ap (slice_index xs) e ∙ same))) in
       record {
         below = place.below;
-        from = elim place.from [ | inl l ↦ inl (omega (arith, l)) | inr r ↦ absurd (omega (arith, r.1, more)) ];
+        from = elim place.from [ inl l ↦ inl (omega (arith, l)) | inr r ↦ absurd (omega (arith, r.1, more)) ];
         to = λ further. above;
       },
 )

@@ -43,7 +43,7 @@ none_waits s u p v row count is all =
     cc (at, no)) in
     record {
       every = ap length is ∙ length-replicate count false ∙ all;
-      marked = λ q w. elim w.so_far [ | inl l ↦ absurd (omega (arith, l)) | inr r ↦ absurd (omega (arith, r.1)) ];
+      marked = λ q w. elim w.so_far [ inl l ↦ absurd (omega (arith, l)) | inr r ↦ absurd (omega (arith, r.1)) ];
       only = λ q at. absurd (none q (ap (λ (xs : List Bool). slice_index_or xs q false) (sym is) ∙ at));
     }
 
@@ -54,12 +54,12 @@ module _ (s : Plan) (is : IsPlan s) (blocks : List ℕ) (marks : List (List Bool
       links_same s.topology (WaitsSoFar s a (node_count s.topology)) (WaitsSoFar s (a + 1) 0) blocks marks count
       (λ u p v q w. record {
         wait = w.wait;
-        so_far = elim w.so_far [ | inl l ↦ inl (omega (arith, l)) | inr r ↦ inl (omega (arith, r.0)) ];
+        so_far = elim w.so_far [ inl l ↦ inl (omega (arith, l)) | inr r ↦ inl (omega (arith, r.0)) ];
       })
       (λ u p v q w. record {
         wait = w.wait;
         so_far = elim w.so_far [
-          | inl l ↦ elim (cases_lt (label_in s w.wait.goal) a) [ | inl lt ↦ inl lt | inr ge ↦ inr (omega (arith, l, ge), w.wait.from) ]
+          | inl l ↦ elim (cases_lt (label_in s w.wait.goal) a) [ inl lt ↦ inl lt | inr ge ↦ inr (omega (arith, l, ge), w.wait.from) ]
           | inr r ↦ absurd (omega (arith, r.1))
         ];
       })
@@ -68,13 +68,13 @@ module _ (s : Plan) (is : IsPlan s) (blocks : List ℕ) (marks : List (List Bool
   pub all_so_far : AreLinks s.topology (WaitsSoFar s (node_count s.topology) 0) blocks marks count → AreLinks s.topology (Waits s) blocks marks count
   all_so_far =
       links_same s.topology (WaitsSoFar s (node_count s.topology) 0) (Waits s) blocks marks count (λ u p v q w. w.wait)
-      (λ u p v q w. record { wait = w; so_far = inl (is.labels.label w.goal w.to); })
+      (λ u p v q w. record { wait = w; so_far = inl (is.labels.label w.goal w.to) })
 
 -- a node more whose links are done
 later_node : (s : Plan) (a k u p v q : ℕ) → WaitsSoFar s a k u p v q → WaitsSoFar s a (k + 1) u p v q
 later_node s a k u p v q w = record {
   wait = w.wait;
-  so_far = elim w.so_far [ | inl l ↦ inl l | inr r ↦ inr (r.0, omega (arith, r.1)) ];
+  so_far = elim w.so_far [ inl l ↦ inl l | inr r ↦ inr (r.0, omega (arith, r.1)) ];
 }
 
 -- a wait on a walk to the label a is one to its node
@@ -107,14 +107,14 @@ module _ (s : Plan) (is : IsPlan s) (blocks : List ℕ) (a k : ℕ) where
     -- the next node's wait
     its_wait : WaitsSoFar s a (k + 1) k p hop.node q
     its_wait = record {
-      wait = record { goal = node_in s a; hop = hop; from = in_net; to = is.labels.node a label; leaves = leaves; leads = leads; there = refl; goes_on = goes_on; };
+      wait = record { goal = node_in s a; hop = hop; from = in_net; to = is.labels.node a label; leaves = leaves; leads = leads; there = refl; goes_on = goes_on };
       so_far = inr (is.labels.back a label, omega arith);
     }
 
     -- no other one of the same link
     its_only : (v r : ℕ) → WaitsSoFar s a (k + 1) k p v r → WaitsSoFar s a k k p v r ⊎ (r ≡ q)
     its_only v r w = elim w.so_far [
-      | inl l ↦ inl (record { wait = w.wait; so_far = inl l; })
+      | inl l ↦ inl (record { wait = w.wait; so_far = inl l })
       | inr to ↦
           let goal = goal_is s is a k p v r w.wait to.0 in
           let same : w.wait.hop ≡ hop = cc (w.wait.leads, leads) in

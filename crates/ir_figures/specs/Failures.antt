@@ -89,7 +89,6 @@ pub record AreLinkFailures (nodes : List Name) (plan : Plan) (labels : Option La
   pub each : AllZip (IsLinkLine nodes plan labels) (range_with_len 0 (length plan.topology.links)) lines
   pub whole : text ≡ line_text (failures_head (codes "links") plan words) ++ flat_map (λ line. line) lines
 
-
 -- ---- where a node fails
 
 -- the network of a graph without the node k and its links: that of a graph that never had it

@@ -27,11 +27,7 @@ fn next_place(row: &Row, a: u16, place: usize) -> usize
     ensures within { result ≤ length row.now }
     ensures place { IsPlaceOf (labels row.now) a place → IsPlaceOf (labels row.now) (a + 1) result }
 {
-    let next = if row.len() - place > 1 {
-        place + 1
-    } else {
-        0
-    };
+    let next = if row.len() - place > 1 { place + 1 } else { 0 };
     if next < row.len() && row.start(next) == a + 1 {
         next
     } else {
@@ -57,11 +53,7 @@ fn port_in(row: &Row, place: usize, is_own: bool) -> Option<u16>
     ensures own { is_own ≡ true → result ≡ None }
     ensures other { is_own ≡ false → result ≡ Some (slice_index (start_ports row.now) place) }
 {
-    if is_own {
-        None
-    } else {
-        Some(row.port(place))
-    }
+    if is_own { None } else { Some(row.port(place)) }
 }
 
 /// Reads the ports of all nodes to a label, and goes on to the places of the next one.

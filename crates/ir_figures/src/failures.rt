@@ -84,7 +84,13 @@ fn labels_left(alloc: Global, plan: &Plan, order: Option<LabelOrder>) -> Result<
 }
 
 /// Writes what a network comes to: the figures of its plan of a kind, or that there is none.
-pub(crate) fn push_plan(text: &mut String, alloc: Global, net: Topology, kind: Kind, labels: Labels) -> TextResult
+pub(crate) fn push_plan(
+    text: &mut String,
+    alloc: Global,
+    net: Topology,
+    kind: Kind,
+    labels: Labels,
+) -> TextResult
     requires labels { MayLabel net kind (labelling_of labels) }
     requires root { 0 < node_count net → HasRoot net (labelling_of labels) }
     ensures { OnOk result ((words : List (List ℕ)) × AreWordsOf net kind (labelling_of labels) words
@@ -202,7 +208,12 @@ fn push_head(text: &mut String, alloc: Global, plan: &Plan, what: &str) -> TextR
 }
 
 /// The text of the figures of a plan and of these lines.
-pub(crate) fn failures_text(alloc: Global, plan: &Plan, what: &str, lines: &[NodeText]) -> Result<String, AllocError>
+pub(crate) fn failures_text(
+    alloc: Global,
+    plan: &Plan,
+    what: &str,
+    lines: &[NodeText],
+) -> Result<String, AllocError>
     ensures { IfOk result (λ text. (words : List (List ℕ)) × AreFigureWords plan.now words
         × (string_bytes text ≡ line_text (failures_head what.now plan.now words) ++ flat_map bytes_made lines.now)) }
 {

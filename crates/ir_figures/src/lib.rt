@@ -20,7 +20,7 @@ pub use bits::{Bits, bits_of};
 pub use compared::compare_text;
 pub use failures::link_failures_text;
 pub use laws::{comparison_is_determined, numbers_rule_out_rings, tree_plans_have_no_ring};
-pub use node_failures::{node_failure_line, node_failures_text};
 pub use most::{Most, most_intervals};
+pub use node_failures::{node_failure_line, node_failures_text};
 pub use text::{figures_text, figures_text_beside};
 pub use waits::{waiting_ring, waiting_ring_together};

@@ -30,9 +30,7 @@ pub fn bounds_by_crew(
 {
     let owners = chosen_owners(alloc, topology, root, detour)?;
     let near = near_lists(crew, alloc, topology, &owners, detour.stretch)?;
-    Ok(LandmarkBounds::by_lists(
-        topology, root, detour, owners, near,
-    ))
+    Ok(LandmarkBounds::by_lists(topology, root, detour, owners, near))
 }
 
 // The lists of near nodes of all batches.

@@ -10,6 +10,6 @@ returns c =
       head.0,
       head.1,
       c.in_ok-push_texts.ensures
-      ∙ ap (λ (t : List ℕ). t ++ flat_map bytes_made c.args.lines.now)
-      (head.2 ∙ ap (λ (t : List ℕ). t ++ line_text (failures_head c.args.what.now c.args.plan.now head.0)) c.new-text.ensures.bytes),
+          ∙ ap (λ (t : List ℕ). t ++ flat_map bytes_made c.args.lines.now)
+          (head.2 ∙ ap (λ (t : List ℕ). t ++ line_text (failures_head c.args.what.now c.args.plan.now head.0)) c.new-text.ensures.bytes),
     )

@@ -20,8 +20,11 @@ network_without-requires c =
     let x : Name = name_at (names g) c.args.k in
     let k_in : c.args.k < length (names g) = omega (arith, c.requires.node, length-map g (λ (r : Name × Neighbors). r.0)) in
     let has : has_node g x ≡ true = has_node_at g c.args.k x (slice_get-get_or (names g) c.args.k [] k_in) in
-    subst (λ (h : Adjacency). has_node h c.name_of-name.result.now ≡ true) (sym c.requires.copied)
-    (subst (λ (y : Name). has_node g y ≡ true) (sym c.name_of-name.ensures) has)
+    record {
+      node =
+          subst (λ (h : Adjacency). has_node h c.name_of-name.result.now ≡ true) (sym c.requires.copied)
+          (subst (λ (y : Name). has_node g y ≡ true) (sym c.name_of-name.ensures) has);
+    }
 
 pub push_plan-requires-clause-labels : goal.push_plan-requires-clause-labels
 push_plan-requires-clause-labels c =
