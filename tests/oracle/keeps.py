@@ -87,7 +87,9 @@ def keeps_fault(seed: int) -> Optional[str]:
     """What differs between a run that keeps labels and the walks of its plans."""
     luck = random.Random(seed)
     net = Kept(seed, luck)
-    topology, lines, rows = put(f"{net.name}.topology", net.text()), [], []
+    topology = put(f"{net.name}.topology", net.text())
+    lines: List[str] = []
+    rows: List[str] = []
     for _ in range(luck.randrange(2, 7)):
         for source, dest in [(luck.choice(net.nodes), luck.choice(net.nodes)) for _ in range(3)]:
             hops = walk(net.rows, source, dest)
@@ -101,8 +103,8 @@ def keeps_fault(seed: int) -> Optional[str]:
     for got in (run(["sim", *words, topology, script]), run(["live", *words, topology, live])):
         if got != (wanted, b"", 0):
             return f"{seed}: {brief(got[0])}, {brief(got[1])}, status {got[2]}, in place of {brief(wanted)}"
-    for one in ([], ["--whole"]):
-        got = run(["check", *one, *words, topology, script, put(f"{net.name}.trace", wanted)])
+    for sub in (["check"], ["check", "--whole"]):
+        got = run([*sub, *words, topology, script, put(f"{net.name}.trace", wanted)])
         if got != (f"ok {len(rows)}\n".encode(), b"", 0):
             return f"{seed}: check says {brief(got[0])} and {brief(got[1])}"
     return None

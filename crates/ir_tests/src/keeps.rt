@@ -60,7 +60,8 @@ fn is_kept(alloc: Global, opening: &Opening, wanted: &[Option<u16>]) -> bool {
 /// Whether a run of the opening installs all of them.
 fn is_played(alloc: Global, opening: Opening) -> bool {
     match play(alloc, opening, &STEPS) {
-        Ok(Played { world: _, replies }) => replies.as_slice().last() == Some(&Ok(Reply::Installed(6))),
+        Ok(Played { world: _, replies }) => replies.as_slice().last()
+            == Some(&Ok(Reply::Installed(6))),
         Err(_) => false,
     }
 }
