@@ -78,7 +78,7 @@ def as_json(text: str) -> List[Dict[str, Any]]:
             it.update({"node": words[0], "packet": int(words[1]), "epoch": int(words[2])})
             it["next" if words[3] == "sent" else "fate"] = words[4] if words[3] == "sent" else words[3]
             it.update({"link": words[4:]} if words[3] in ("down", "full") else {})
-        elif name == "install":
+        elif name in ("install", "renumber"):
             it.update({"kind": words[0], "root": words[1], "epoch": int(words[2])})
         elif name == "read":
             it.update({"node": words[0], "version": int(words[1])})

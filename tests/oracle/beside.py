@@ -91,7 +91,7 @@ def found_beside(lines: List[str], rows: List[Row], capacity: int, packets: int)
     for words_ in map(str.split, lines):
         if words_[0] == "inject":
             injects.append((words_[1], words_[2], epochs))
-        epochs += words_[0] == "install"
+        epochs += words_[0] in ("install", "renumber")
     downs = {frozenset(words_[1:]) for words_ in map(str.split, lines) if words_[0] == "down"}
     floors = [int(words_[1]) for words_ in map(str.split, lines) if words_[0] == "retire"]
     ends: Dict[int, Fits] = {}

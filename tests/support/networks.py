@@ -54,7 +54,7 @@ def change(luck: random.Random, nodes: Sequence[str], links: Links, down: Links)
         return f"retire {luck.randrange(1, 60)}"
     if what == 3:
         return "{} {} {}".format(luck.choice(["avoid", "avoid", "heed"]), *luck.choice(links))
-    return "install {} {}".format(luck.choice(["tree", "shortest", "compact", "landmark"]), luck.choice(nodes))
+    return "{} {} {}".format(luck.choice(["install", "install", "renumber"]), luck.choice(["tree", "shortest", "compact", "landmark"]), luck.choice(nodes))
 
 
 def all_pairs(links: int) -> str:

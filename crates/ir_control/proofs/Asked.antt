@@ -10,7 +10,7 @@ use Rattle.ir_model.specs.declared.Kind.{Kind}
 use Rattle.ir_model.specs.Topology.{Topology, restrict}
 use Rattle.ir_plan.specs.declared.tour.LabelOrder.{LabelOrder}
 use Rattle.ir_plan.specs.Building.{Labelling, FromRoot}
-use Rattle.ir_core.specs.Drafts.{order_kept, labelling_by}
+use Rattle.ir_core.specs.Drafts.{kept_order, labelling_by}
 use Rattle.ir_core.specs.declared.TheConstants.{MAX_LINKS}
 use Rattle.ir_core.specs.declared.board.Board.{Board}
 use Rattle.ir_core.specs.Marks.{both}
@@ -46,7 +46,7 @@ use Rattle.ir_control.specs.Parts.{AreFreshParts}
 use Rattle.ir_control.specs.Desks.{Desk}
 use Rattle.ir_control.specs.Agreed.{AreOfOne}
 use Rattle.ir_control.specs.Answers.{CommandAnswer, epoch_after}
-use Rattle.ir_control.specs.Planned.{LinkMarks, all_marked, used_in, marks_after, stamp_by, stamps_in, IsPlanned, IsAsked, AreAsked}
+use Rattle.ir_control.specs.Planned.{LinkMarks, all_marked, used_in, marks_after, stamp_by, stamps_in, IsPlannedAs, IsAsked, AreAsked}
 use Rattle.ir_control.specs.Carried.{IsChangedAs, IsInstalledAs, InstallsAndLearns, IsCarriedOut, AreCarriedOut}
 
 -- a mark that is not refused is that of a link
@@ -180,19 +180,19 @@ module _ {B : Type 0} (net : Net) (origin : Controller B) where
       ap registry_name (sym done.stamp_is) ∙ done.installs.registered ∙ sym a.controller.of_registry ∙ ap registry_name is.opening
 
   -- by what a plan is labelled
-  labels_same : (keeps : Bool) (kind : Kind) (root : ℕ) (m : LinkMarks) (last : ℕ) (c : Controller B) → Stands m last c → labelling_next c keeps kind root ≡ labelling_by net.labels root (order_kept keeps kind m.order)
+  labels_same : (keeps : Bool) (kind : Kind) (root : ℕ) (m : LinkMarks) (last : ℕ) (c : Controller B) → Stands m last c → labelling_next c keeps kind root ≡ labelling_by net.labels root (kept_order keeps kind m.order)
   labels_same keeps kind root m last c is =
-      ap (λ (n : LabelOrder). labelling_by n root (order_kept keeps kind (current_order c))) is.labels ∙ ap (λ (xs : List ℕ). labelling_by net.labels root (order_kept keeps kind xs)) is.newest
+      ap (λ (n : LabelOrder). labelling_by n root (kept_order keeps kind (current_order c))) is.labels ∙ ap (λ (xs : List ℕ). labelling_by net.labels root (kept_order keeps kind xs)) is.newest
 
   installed : (keeps : Bool) (kind : Kind) (root : ℕ) (m : LinkMarks) (last : ℕ) (a b : Desk B) (s : Stamp) → InstallsAndLearns a b keeps kind root s → Stands m last a.controller →
-      IsPlanned (labelling_by net.labels root (order_kept keeps kind m.order)) kind net.topology m last (Ok (Some s)) × Stands (record m { order = (knows s).order }) (epoch_after last (Ok (Some s))) b.controller
+      IsPlannedAs (labelling_by net.labels root (kept_order keeps kind m.order)) kind net.topology m last (Ok (Some s)) × Stands (record m { order = (knows s).order }) (epoch_after last (Ok (Some s))) b.controller
   installed keeps kind root m last a b s done is =
       let i = done.installs in
       let same : i.stamp.epoch ≡ s.epoch = ap (λ (x : Stamp). x.epoch) done.stamp_is in
       let number = i.epoch in
       let before = is.used in
       let now = i.used in
-      let labels = labelling_by net.labels root (order_kept keeps kind m.order) in
+      let labels = labelling_by net.labels root (kept_order keeps kind m.order) in
       let made : IsMade labels kind (restrict (used_in m) net.topology) (Some (knows i.stamp)) =
       subst (λ (l : Labelling). IsMade l kind (restrict (used_in m) net.topology) (Some (knows i.stamp))) (labels_same keeps kind root m last a.controller is)
       (subst (λ (g : Topology). IsMade (labelling_next a.controller keeps kind root) kind g (Some (knows i.stamp))) (same_up m last a.controller is) i.plan) in (
@@ -214,7 +214,7 @@ module _ {B : Type 0} (net : Net) (origin : Controller B) where
     step (Install kind root) m last a b (Ok None) done is = absurd done
     step (Install kind root) m last a b (Ok (Some s)) done is =
         let one = installed a.controller.keeps kind root m last a b s done is in
-        (subst (λ (k : Bool). IsPlanned (labelling_by net.labels root (order_kept k kind m.order)) kind net.topology m last (Ok (Some s))) is.keeps one.0, one.1)
+        (subst (λ (k : Bool). IsPlannedAs (labelling_by net.labels root (kept_order k kind m.order)) kind net.topology m last (Ok (Some s))) is.keeps one.0, one.1)
     step (Install kind root) m last a b (Err why) done is = (tt, not_installed a.controller.keeps kind root m last a b why done is)
     step (Renumber kind root) m last a b (Ok None) done is = absurd done
     step (Renumber kind root) m last a b (Ok (Some s)) done is = installed false kind root m last a b s done is

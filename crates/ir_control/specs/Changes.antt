@@ -11,7 +11,7 @@ use Rattle.ir_core.specs.declared.board.Board.{Board}
 use Rattle.ir_core.specs.Refusals.{install_refused, retire_refused, mark_refused, heed_refused}
 use Rattle.ir_core.specs.Board.{links_used}
 use Rattle.ir_plan.specs.Building.{Labelling}
-use Rattle.ir_core.specs.Drafts.{order_kept, labelling_by}
+use Rattle.ir_core.specs.Drafts.{kept_order, labelling_by}
 use Rattle.ir_core.specs.Meaning.{IsMade}
 use Rattle.ir_epochs.specs.declared.registry.Stamp.{Stamp}
 use Rattle.ir_epochs.specs.declared.handles.Receipt.{Receipt}
@@ -100,7 +100,7 @@ module _ {R : Type 0} where
 
   -- by what the next plan is labelled, where the current epoch's order is kept or is not
   abbrev pub labelling_next : Controller R → Bool → Kind → ℕ → Labelling
-  labelling_next c keeps kind root = labelling_by c.labels root (order_kept keeps kind (current_order c))
+  labelling_next c keeps kind root = labelling_by c.labels root (kept_order keeps kind (current_order c))
 
   -- a plan of this kind over the links that are up and heeded, labelled so; or why there is none
   abbrev pub IsPlanAnswer : Bool → Kind → ℕ → Controller R → Result Plan Refused → Type 0

@@ -6,7 +6,7 @@ use Rattle.ir_model.specs.Plan.{Plan}
 use Rattle.ir_plan.specs.declared.tour.LabelOrder.{LabelOrder}
 use Rattle.ir_core.specs.Marks.{both}
 use Rattle.ir_plan.specs.Building.{Labelling, FromRoot}
-use Rattle.ir_core.specs.Drafts.{order_kept, labelling_by}
+use Rattle.ir_core.specs.Drafts.{kept_order, labelling_by}
 use Rattle.ir_core.specs.Meaning.{IsMade}
 use Rattle.ir_core.specs.declared.command.Command.{Command}
 use Rattle.ir_core.specs.declared.command.Command.TheVariants.{Inject, Install, Renumber, Retire, Down, Up, Avoid, Heed, Drain}
@@ -76,16 +76,16 @@ marks_after marks Drain answer = marks
 
 -- An install that is accepted has a later epoch than all before it, and a plan of the command's kind over the links that
 -- installs use, labelled by these.
-abbrev pub IsPlanned : Labelling → Kind → Topology → LinkMarks → ℕ → CommandAnswer → Type 0
-IsPlanned labels kind net marks last (Ok None) = ⊥
-IsPlanned labels kind net marks last (Ok (Some s)) = (last < s.epoch) × IsMade labels kind (restrict (used_in marks) net) (Some (knows s))
-IsPlanned labels kind net marks last (Err why) = Unit {0}
+abbrev pub IsPlannedAs : Labelling → Kind → Topology → LinkMarks → ℕ → CommandAnswer → Type 0
+IsPlannedAs labels kind net marks last (Ok None) = ⊥
+IsPlannedAs labels kind net marks last (Ok (Some s)) = (last < s.epoch) × IsMade labels kind (restrict (used_in marks) net) (Some (knows s))
+IsPlannedAs labels kind net marks last (Err why) = Unit {0}
 
 -- An install is labelled in the net's order from the root, or as the epoch before, where the net keeps that; to renumber is
 -- to label in the net's order. No other command installs.
 abbrev pub IsAsked : LabelOrder → Bool → Topology → LinkMarks → ℕ → Command → CommandAnswer → Type 0
-IsAsked labels keeps net marks last (Install kind root) answer = IsPlanned (labelling_by labels root (order_kept keeps kind marks.order)) kind net marks last answer
-IsAsked labels keeps net marks last (Renumber kind root) answer = IsPlanned (FromRoot labels root) kind net marks last answer
+IsAsked labels keeps net marks last (Install kind root) answer = IsPlannedAs (labelling_by labels root (kept_order keeps kind marks.order)) kind net marks last answer
+IsAsked labels keeps net marks last (Renumber kind root) answer = IsPlannedAs (FromRoot labels root) kind net marks last answer
 IsAsked labels keeps net marks last (Inject source dest) answer = stamp_by answer ≡ []
 IsAsked labels keeps net marks last (Retire floor) answer = stamp_by answer ≡ []
 IsAsked labels keeps net marks last (Down link) answer = stamp_by answer ≡ []

@@ -10,7 +10,7 @@ ghost use Rattle.ir_epochs.specs.declared.entry.Entry.TheVariants.{Opened, Chang
 ghost use Rattle.ir_epochs.specs.Handles.{published, known, writer_board, reader_board, told, receipt_board};
 ghost use mathlib.Core.List.{IsPrefix};
 
-use ir_core::{Board, Draft, Refused, order_kept, plan_up_by};
+use ir_core::{Board, Draft, Refused, kept_order, plan_up_by};
 use ir_epochs::{BoardWriter, Change, Receipt, RegisterError, Registry, Stamp};
 use ir_model::Kind;
 use ir_plan::{LabelOrder, Plan, Several};
@@ -42,7 +42,7 @@ impl<R: Wait + Drop> Controller<R> {
     ghost use Rattle.ir_control.specs.Changes.{published_by, newest_board, IsReadBy, retiring_refused, marking_refused, heeding_refused};
     ghost use Rattle.ir_worker.specs.Same.{known_to};
     ghost use Rattle.ir_control.specs.Changes.{current_order, install_refusal, IsChangeAnswer, IsInstallAnswer, IsPlanAnswer};
-    ghost use Rattle.ir_core.specs.Drafts.{items_of, labelling_by, order_kept};
+    ghost use Rattle.ir_core.specs.Drafts.{items_of, labelling_by, kept_order};
     ghost use Rattle.ir_plan.specs.{declared.tour.LabelOrder.LabelOrder, Building.MayLabel};
     ghost use Rattle.ir_epochs.specs.declared.entry.Change.TheVariants.{Retire, Down, Up, Avoid, Heed};
     ghost use Rattle.std.specs.Prelude.{◌↔◌, ℕ, IsTrue, true, false};
@@ -168,8 +168,8 @@ impl<R: Wait + Drop> Controller<R> {
     }
 
     // The nodes by label that the next plan of a kind keeps, where orders are kept.
-    fn order_kept(&self, keeps: bool, kind: Kind) -> Result<Option<Vec<u16>>, Refused>
-        ensures kept { IfOk result (λ kept. items_of kept ≡ order_kept keeps kind (current_order self.now)) }
+    fn kept_order(&self, keeps: bool, kind: Kind) -> Result<Option<Vec<u16>>, Refused>
+        ensures kept { IfOk result (λ kept. items_of kept ≡ kept_order keeps kind (current_order self.now)) }
         ensures may { IfOk result (λ kept. (labels : LabelOrder) (root : ℕ)
             → MayLabel (knows self.now.opening).topology kind (labelling_by labels root (items_of kept))) }
         ensures refused { IfErr result (λ e. e ≡ Refused.NoMemory) }
@@ -177,7 +177,7 @@ impl<R: Wait + Drop> Controller<R> {
         let stamp = self.writer.stamp();
         let current = self.registry.plan(&stamp);
         current.invariant();
-        match order_kept(self.alloc, keeps, kind, current) {
+        match kept_order(self.alloc, keeps, kind, current) {
             Ok(kept) => Ok(kept),
             Err(_) => Err(Refused::NoMemory),
         }
@@ -196,7 +196,7 @@ impl<R: Wait + Drop> Controller<R> {
         ensures answer { IsPlanAnswer keeps kind root self.now result }
         ensures number { IfErr result (λ e. 0 < install_number e) }
     {
-        let kept = self.order_kept(keeps, kind)?;
+        let kept = self.kept_order(keeps, kind)?;
         let topology = self.registry.plan(&self.opening).topology();
         let board = self.writer.board();
         let crew = Several { rt, most: None };

@@ -10,7 +10,7 @@ use Rattle.ir_model.specs.Walk.{IsConnected, IsDisconnected}
 use Rattle.ir_model.specs.Plan.{Plan}
 use Rattle.ir_plan.specs.declared.tour.LabelOrder.{LabelOrder}
 use Rattle.ir_plan.specs.Building.{Labelling, FromRoot}
-use Rattle.ir_core.specs.Drafts.{order_kept, labelling_by}
+use Rattle.ir_core.specs.Drafts.{kept_order, labelling_by}
 use Rattle.ir_core.proofs.Labelled.{IsTwin, twins, made_moved}
 use Rattle.ir_core.specs.declared.opening.Opening.{Opening}
 use Rattle.ir_core.specs.declared.board.Board.{Board}
@@ -73,13 +73,13 @@ twins-at (s ∷ ss) (t ∷ ts) h (suc k) d e same = twins-at ss ts h.1 k d e sam
 
 -- by what the next plans are labelled
 pub next_same : (o p : Setting) → o.labels ≡ p.labels → o.keeps ≡ p.keeps → o.first.order ≡ p.first.order → (ss ts : List Plan) → AreTwins ss ts → (kind : Kind) (root : ℕ) →
-    labelling_by o.labels root (order_kept o.keeps kind (plan_of o ss (length ss)).order) ≡ labelling_by p.labels root (order_kept p.keeps kind (plan_of p ts (length ts)).order)
+    labelling_by o.labels root (kept_order o.keeps kind (plan_of o ss (length ss)).order) ≡ labelling_by p.labels root (kept_order p.keeps kind (plan_of p ts (length ts)).order)
 next_same o p order keep first ss ts are kind root =
     let newest : (plan_of o ss (length ss)).order ≡ (plan_of p ts (length ts)).order =
     twins-at ss ts are (length ss - 1) o.first p.first first ∙ ap (λ (n : ℕ). (slice_index_or ts (n - 1) p.first).order) (twins-length ss ts are) in
-    ap (λ (xs : List ℕ). labelling_by o.labels root (order_kept o.keeps kind xs)) newest
-    ∙ ap (λ (k : Bool). labelling_by o.labels root (order_kept k kind (plan_of p ts (length ts)).order)) keep
-    ∙ ap (λ (n : LabelOrder). labelling_by n root (order_kept p.keeps kind (plan_of p ts (length ts)).order)) order
+    ap (λ (xs : List ℕ). labelling_by o.labels root (kept_order o.keeps kind xs)) newest
+    ∙ ap (λ (k : Bool). labelling_by o.labels root (kept_order k kind (plan_of p ts (length ts)).order)) keep
+    ∙ ap (λ (n : LabelOrder). labelling_by n root (kept_order p.keeps kind (plan_of p ts (length ts)).order)) order
 
 twins_built : (o p : Setting) → o.topology ≡ p.topology → o.labels ≡ p.labels → (installs : List Install) (ss ts : List Plan) → AreTwins ss ts → AreBuiltFrom p installs ts → AreBuiltFrom o installs ss
 twins_built o p same order [] [] [] h built = tt

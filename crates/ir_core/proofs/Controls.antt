@@ -28,13 +28,13 @@ use Rattle.ir_core.specs.Opened.{IsOpenedWith}
 use Rattle.ir_core.specs.Entry.{Entry, DidChange}
 use Rattle.ir_core.specs.History as history
 use Rattle.ir_plan.specs.Building.{Labelling}
-use Rattle.ir_core.specs.Drafts.{items_of, order_kept, labelling_by}
+use Rattle.ir_core.specs.Drafts.{items_of, kept_order, labelling_by}
 use Rattle.ir_core.proofs.Labelled.{tree_keeps}
 use Rattle.ir_core.specs.Meaning.{Sight, IsMade, ComesTo, Installs, InstallsUnless, unless, install_refusal, installs_made, topology_up, newest, newest_of, newest_plan, plan_of, sight_after, with_entry}
 use Rattle.ir_core.specs.World.{World, IsWorld, sight_in}
 use Rattle.ir_core.specs.Shows.{Shows, AnswersAfter, IsAnswered, reply_to}
 use Rattle.ir_core.proofs.Accepted.{same_entry, not_accepted}
-use Rattle.ir_core.specs.Installed.{IsTaken, IsControlled, IsControlRun, labelled_by, IsNext, IsInstallOf, IsBuiltFrom, AreBuiltFrom, AreInstallsWithPlans, ControlsOn, IsPlainChange}
+use Rattle.ir_core.specs.Installed.{IsTaken, IsControlled, IsControlRun, labelled_by, IsNextInstall, IsInstallOf, IsBuiltFrom, AreBuiltFrom, AreInstallsWithPlans, ControlsOn, IsPlainChange}
 
 built_push : (o : Setting) (installs : List Install) (plans : List Plan) (i : Install) (t : Plan) → AreBuiltFrom o installs plans → IsBuiltFrom o i t → AreBuiltFrom o (installs ++ i ∷ []) (plans ++ t ∷ [])
 built_push o [] [] i t b is = (is, tt)
@@ -98,15 +98,15 @@ change_taken s new e reply is same answers memory installs = (same, λ log k bui
     by_answer log built later (inr a) shows = absurd (memory a.1)
 
 -- what an install comes to, by what its plan is built from
-module _ (s : World) (t : Sight) (same : t.plans ≡ s.plans) (keeps : Bool) (kind : Kind) (root : ℕ) (i : Install) (is : IsNext s keeps kind root i) where
+module _ (s : World) (t : Sight) (same : t.plans ≡ s.plans) (keeps : Bool) (kind : Kind) (root : ℕ) (i : Install) (is : IsNextInstall s keeps kind root i) where
   abbrev given : Labelling
-  given = labelling_by s.opening.labels root (order_kept keeps kind (newest_plan s.opening t).order)
+  given = labelling_by s.opening.labels root (kept_order keeps kind (newest_plan s.opening t).order)
 
   labelled : given ≡ labelled_by i
   labelled =
-      ap (λ (n : LabelOrder). labelling_by n root (order_kept keeps kind (newest_plan s.opening t).order)) (sym is.labels)
-      ∙ ap (λ (u : ℕ). labelling_by i.labels u (order_kept keeps kind (newest_plan s.opening t).order)) (sym is.root)
-      ∙ ap (labelling_by i.labels i.root) (ap (λ (plans : List Plan). order_kept keeps kind (plan_of s.opening plans (length plans)).order) same ∙ sym is.kept)
+      ap (λ (n : LabelOrder). labelling_by n root (kept_order keeps kind (newest_plan s.opening t).order)) (sym is.labels)
+      ∙ ap (λ (u : ℕ). labelling_by i.labels u (kept_order keeps kind (newest_plan s.opening t).order)) (sym is.root)
+      ∙ ap (labelling_by i.labels i.root) (ap (λ (plans : List Plan). kept_order keeps kind (plan_of s.opening plans (length plans)).order) same ∙ sym is.kept)
 
   next_made : (wanted : Result Entry Refused) → Installs s.opening t given kind root wanted → Installs s.opening t (labelled_by i) i.kind i.root wanted
   next_made wanted comes =

@@ -21,7 +21,7 @@ use Rattle.ir_plan.specs.declared.error.PlanError.{PlanError}
 use Rattle.ir_plan.specs.declared.error.PlanError.TheVariants as plan
 use Rattle.ir_plan.specs.declared.tour.LabelOrder.{LabelOrder}
 use Rattle.ir_plan.specs.Building.{Labelling, MayLabel, RefusesPlan}
-use Rattle.ir_core.specs.Drafts.{order_kept, labelling_by}
+use Rattle.ir_core.specs.Drafts.{kept_order, labelling_by}
 use Rattle.ir_core.proofs.Labelled.{lacks_no_root, may_keep}
 
 -- an install that is refused before any plan is made
@@ -99,17 +99,17 @@ installed_world s some first epoch newest next t mid boards plans made same more
     rw (pushed, more, same, made) (ap (λ (f : Plan). record s { opening = record s.opening { first = f }; boards = s.boards ++ installed newest epoch ∷ []; plans = s.plans ++ t ∷ [] }) one)
 
 -- the labels of the plan that an install asks for, from what the code read
-module _ (s now : World) (same : s ≡ now) (keeps : Bool) (kind : Kind) (root : ℕ) (kept : Option (List ℕ)) (is : kept ≡ order_kept keeps kind (newest_plan now.opening (sight_in now)).order) where
-  pub labels_asked : labelling_by s.opening.labels root kept ≡ labelling_by now.opening.labels root (order_kept keeps kind (newest_plan now.opening (sight_in now)).order)
-  labels_asked = ap (labelling_by s.opening.labels root) is ∙ ap (λ (x : World). labelling_by x.opening.labels root (order_kept keeps kind (newest_plan now.opening (sight_in now)).order)) same
+module _ (s now : World) (same : s ≡ now) (keeps : Bool) (kind : Kind) (root : ℕ) (kept : Option (List ℕ)) (is : kept ≡ kept_order keeps kind (newest_plan now.opening (sight_in now)).order) where
+  pub labels_asked : labelling_by s.opening.labels root kept ≡ labelling_by now.opening.labels root (kept_order keeps kind (newest_plan now.opening (sight_in now)).order)
+  labels_asked = ap (labelling_by s.opening.labels root) is ∙ ap (λ (x : World). labelling_by x.opening.labels root (kept_order keeps kind (newest_plan now.opening (sight_in now)).order)) same
 
   pub answers_asked : (e : Refused) → IsInstallAnswer now now (labelling_by s.opening.labels root kept) kind root (Err e)
-      → IsInstallAnswer now now (labelling_by now.opening.labels root (order_kept keeps kind (newest_plan now.opening (sight_in now)).order)) kind root (Err e)
+      → IsInstallAnswer now now (labelling_by now.opening.labels root (kept_order keeps kind (newest_plan now.opening (sight_in now)).order)) kind root (Err e)
   answers_asked e answer = subst (λ (l : Labelling). IsInstallAnswer now now l kind root (Err e)) labels_asked answer
 
   pub may_ask : IsWorld s → MayLabel s.opening.topology kind (labelling_by s.opening.labels root kept)
   may_ask ok =
       let t = newest_plan s.opening (sight_in s) in
       let each = ok.plans.each (length s.plans - 1) in
-      let here : kept ≡ order_kept keeps kind t.order = is ∙ ap (λ (x : World). order_kept keeps kind (newest_plan x.opening (sight_in x)).order) (sym same) in
+      let here : kept ≡ kept_order keeps kind t.order = is ∙ ap (λ (x : World). kept_order keeps kind (newest_plan x.opening (sight_in x)).order) (sym same) in
       subst (λ (o : Option (List ℕ)). MayLabel s.opening.topology kind (labelling_by s.opening.labels root o)) (sym here) (may_keep s.opening.topology t each.plan each.nodes s.opening.labels root keeps kind)

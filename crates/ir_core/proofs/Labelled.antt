@@ -11,7 +11,7 @@ use Rattle.ir_plan.specs.Tour.{IsTour}
 use Rattle.ir_plan.specs.Starts.{IsPlanAs, IsFirstOrder, IsFirstPlan, IsToured, IsOfShortestWays, HasFewerOfTwo, IsLabelledBy, start_count}
 use Rattle.ir_plan.specs.Building.{Labelling, FromRoot, ByList, IsLabelled, IsPlanBy, MayLabel, HasRoot, HasNoRoot}
 use Rattle.ir_plan.proofs.Labelled.{order_determined}
-use Rattle.ir_core.specs.Drafts.{order_kept, labelling_by}
+use Rattle.ir_core.specs.Drafts.{kept_order, labelling_by}
 
 -- two plans of one network, kind, root and order of labels
 pub record IsTwin (p q : Plan) : Type 0 where
@@ -110,7 +110,7 @@ listed net t is same kind other =
       },
     )
 
-pub may_keep : (net : Topology) (t : Plan) → IsPlan t → node_count t.topology ≡ node_count net → (labels : LabelOrder) (root : ℕ) (keeps : Bool) (kind : Kind) → MayLabel net kind (labelling_by labels root (order_kept keeps kind t.order))
+pub may_keep : (net : Topology) (t : Plan) → IsPlan t → node_count t.topology ≡ node_count net → (labels : LabelOrder) (root : ℕ) (keeps : Bool) (kind : Kind) → MayLabel net kind (labelling_by labels root (kept_order keeps kind t.order))
 may_keep net t is same labels root false kind = tt
 may_keep net t is same labels root true Tree = tt
 may_keep net t is same labels root true Shortest = listed net t is same Shortest (λ e. cc e)
@@ -118,7 +118,7 @@ may_keep net t is same labels root true Compact = listed net t is same Compact (
 may_keep net t is same labels root true (Landmark d) = listed net t is same (Landmark d) (λ e. cc e)
 
 -- a tree keeps none
-pub tree_keeps : (keeps : Bool) (kind : Kind) (order : List ℕ) → kind ≡ Tree → order_kept keeps kind order ≡ None
+pub tree_keeps : (keeps : Bool) (kind : Kind) (order : List ℕ) → kind ≡ Tree → kept_order keeps kind order ≡ None
 tree_keeps false kind order is = refl
 tree_keeps true Tree order is = refl
 tree_keeps true Shortest order is = absurd (cc is)

@@ -12,10 +12,10 @@ items_of None = None
 items_of (Some nodes) = Some nodes.items
 
 -- The order that a plan of a kind keeps of this one, where orders are kept. A tree's is depth first, so it keeps none.
-abbrev pub order_kept : Bool → Kind → List ℕ → Option (List ℕ)
-order_kept false kind order = None
-order_kept true Tree order = None
-order_kept true _ order = Some order
+abbrev pub kept_order : Bool → Kind → List ℕ → Option (List ℕ)
+kept_order false kind order = None
+kept_order true Tree order = None
+kept_order true _ order = Some order
 
 -- By what a plan is labelled: by the order that it keeps, or else in an order from a root.
 abbrev pub labelling_by : LabelOrder → ℕ → Option (List ℕ) → Labelling

@@ -19,7 +19,7 @@ use Rattle.ir_core.specs.declared.built.Install.{Install}
 use Rattle.ir_core.specs.Setting.{Setting, links_of}
 use Rattle.ir_core.specs.Opened.{IsOpenedWith}
 use Rattle.ir_core.specs.Board.{links_used}
-use Rattle.ir_core.specs.Drafts.{items_of, order_kept, labelling_by}
+use Rattle.ir_core.specs.Drafts.{items_of, kept_order, labelling_by}
 use Rattle.ir_core.specs.Entry.{Entry}
 use Rattle.ir_core.specs.History as history
 use Rattle.ir_core.specs.Meaning.{IsMade, ComesTo, newest, newest_plan, sight_after, with_entry}
@@ -102,18 +102,18 @@ ControlsOn s x installs new more =
     (later : List Entry) × IsControlled s.opening log x later × Shows later new × AreBuiltFrom s.opening more (history.plans s.opening later))
 
 -- what the plan of the next epoch is built from, where the order of the newest plan is kept or is not
-pub record IsNext (s : World) (keeps : Bool) (of : Kind) (from : ℕ) (i : Install) : Type 0 where
+pub record IsNextInstall (s : World) (keeps : Bool) (of : Kind) (from : ℕ) (i : Install) : Type 0 where
   pub labels : i.labels ≡ s.opening.labels
   pub kind : i.kind ≡ of
   pub root : i.root ≡ from
   pub count : length i.up.items ≡ links_of s.opening
   pub up : i.up.items ≡ links_used (newest (sight_in s)) (links_of s.opening)
-  pub kept : items_of i.kept ≡ order_kept keeps of (newest_plan s.opening (sight_in s)).order
+  pub kept : items_of i.kept ≡ kept_order keeps of (newest_plan s.opening (sight_in s)).order
 
 -- what the plan of an event is built from, if it installs one
 abbrev pub IsInstallOf : World → Event → Install → Type 0
-IsInstallOf s (event.Install kind root) i = IsNext s s.opening.keeps kind root i
-IsInstallOf s (event.Renumber kind root) i = IsNext s false kind root i
+IsInstallOf s (event.Install kind root) i = IsNextInstall s s.opening.keeps kind root i
+IsInstallOf s (event.Renumber kind root) i = IsNextInstall s false kind root i
 IsInstallOf s _ i = ⊥
 
 -- an event that changes a board and installs nothing

@@ -20,7 +20,7 @@ use Rattle.ir_core.specs.Record.{Record, hop_room, stamp_of}
 use Rattle.ir_core.specs.Board.{opening_board, links_used, marked, heeding, retired_below, installed}
 use Rattle.ir_core.specs.Refusals.{inject_refused, retire_refused, mark_refused, heed_refused, install_refused}
 use Rattle.ir_core.specs.Setting.{Setting, nodes_of, links_of, channel_of, into}
-use Rattle.ir_core.specs.Drafts.{order_kept, labelling_by}
+use Rattle.ir_core.specs.Drafts.{kept_order, labelling_by}
 use Rattle.ir_core.specs.Entry.{Entry, DidInject, DidLearn, DidTake, DidRead, DidAct, DidChange, DidInstall, judged, restamp_by, fresh}
 use Rattle.ir_core.specs.History as history
 
@@ -156,7 +156,7 @@ newest_plan setting s = plan_of setting s.plans (length s.plans)
 
 -- By what the plan of an install is labelled: by the order of the newest plan, where the setting keeps it.
 abbrev pub labelling_next : Setting → Sight → Kind → ℕ → Labelling
-labelling_next setting s kind root = labelling_by setting.labels root (order_kept setting.keeps kind (newest_plan setting s).order)
+labelling_next setting s kind root = labelling_by setting.labels root (kept_order setting.keeps kind (newest_plan setting s).order)
 
 -- the entry of an install, once the plan is made
 abbrev pub installs_made : Sight → Option Plan → Result Entry Refused

@@ -5,7 +5,7 @@ ghost use Rattle.ir_core.specs.{declared.event.Refused.TheVariants.NoMemory, dec
 ghost use Rattle.ir_core.specs.{Meaning.IsMade, History.plans, Shows.Shows};
 ghost use Rattle.ir_core.specs.Opened.{IsOpenedWith, IsOpenRefusal, open_refused};
 ghost use Rattle.ir_core.specs.Installed.{AreInstallsOf, AreInstallsWithPlans, AreBuiltFrom, ControlsOn};
-ghost use Rattle.ir_core.specs.Installed.{IsPlainChange, IsNext, IsInstallOf, install_of};
+ghost use Rattle.ir_core.specs.Installed.{IsPlainChange, IsNextInstall, IsInstallOf, install_of};
 ghost use Rattle.ir_plan.specs.Building.{FromRoot};
 
 use crate::event::{Event, OpenError, Refused, Reply, Step};
@@ -211,12 +211,12 @@ fn next_install(
     kind: Kind,
     root: u16,
 ) -> Result<Install, OpenError>
-    ensures { IfOk result (IsNext world.now keeps kind root) }
+    ensures { IfOk result (IsNextInstall world.now keeps kind root) }
 {
     let Ok(up) = world.used(alloc) else {
         return Err(OpenError::NoMemory);
     };
-    let Ok(kept) = world.order_kept(alloc, keeps, kind) else {
+    let Ok(kept) = world.kept_order(alloc, keeps, kind) else {
         return Err(OpenError::NoMemory);
     };
     let labels = world.labels();

@@ -31,7 +31,7 @@ pub use laws::{
 };
 pub use opening::{Opening, open_refusal};
 pub use packet::{Fate, Held, Record, Restamp, hop_room};
-pub use planning::{Draft, nodes_by_label, order_kept, plan_over_by, plan_up_by};
+pub use planning::{Draft, kept_order, plan_over_by, plan_up_by};
 pub use run::{Played, play, play_by};
 pub use verdict::{decide, judge};
 pub use world::World;

@@ -3,7 +3,7 @@ ghost use Rattle.std.specs.Prelude.{◌≡◌, ◌<◌, ◌≤◌, length, IfOk,
 ghost use Rattle.ir_model.specs.Topology.{node_count, restrict};
 ghost use Rattle.ir_plan.specs.Building.{HasRoot, IsPlanBy, MayLabel, RefusesPlan};
 ghost use Rattle.ir_core.specs.{declared.TheConstants.{MAX_LINKS}, Board.links_used};
-ghost use Rattle.ir_core.specs.Drafts.{items_of, labelling_of_draft, order_kept};
+ghost use Rattle.ir_core.specs.Drafts.{items_of, labelling_of_draft, kept_order};
 
 use crate::MAX_LINKS;
 use crate::board::Board;
@@ -26,7 +26,7 @@ pub struct Draft {
 }
 
 /// The nodes of a plan by label. Takes O(n).
-pub fn nodes_by_label(alloc: Global, plan: &Plan) -> Result<Vec<u16>, AllocError>
+fn nodes_by_label(alloc: Global, plan: &Plan) -> Result<Vec<u16>, AllocError>
     ensures { IfOk result (λ nodes. nodes.items ≡ plan.now.order) }
 {
     plan.invariant();
@@ -39,13 +39,13 @@ pub fn nodes_by_label(alloc: Global, plan: &Plan) -> Result<Vec<u16>, AllocError
 
 /// The nodes by label that a plan of a kind keeps of the plan before, where orders are kept. A tree's
 /// are depth first from its own root, so it keeps none. Takes O(n).
-pub fn order_kept(
+pub fn kept_order(
     alloc: Global,
     keeps: bool,
     kind: Kind,
     before: &Plan,
 ) -> Result<Option<Vec<u16>>, AllocError>
-    ensures { IfOk result (λ kept. items_of kept ≡ order_kept keeps kind before.now.order) }
+    ensures { IfOk result (λ kept. items_of kept ≡ kept_order keeps kind before.now.order) }
 {
     if !keeps {
         return Ok(None);

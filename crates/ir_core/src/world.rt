@@ -5,7 +5,7 @@ ghost use Rattle.ir_core.specs.World.{World, IsWorld, IsBoard, sight_in, IsAnswe
 ghost use Rattle.ir_core.specs.{Inside.{world_of, IsWorldKept}, Setting.{IsSetting, nodes_of, links_of}};
 ghost use Rattle.ir_core.specs.Opened.{IsOpenedWith, IsOpenRefusal, opening_of, setting_of};
 ghost use Rattle.ir_core.specs.Meaning.{newest, newest_plan, learns, reads, takes, acts, retires, marks, heeds, injects, verdict_on, ruling_on, record_at, board_at, is_full_towards, plan_of};
-ghost use Rattle.ir_core.specs.Drafts.{items_of, labelling_by, order_kept};
+ghost use Rattle.ir_core.specs.Drafts.{items_of, labelling_by, kept_order};
 ghost use Rattle.ir_core.specs.{Record.stamp_of, Entry.Entry, History.boards, Shows.{Shows, AnswersAfter}};
 ghost use Rattle.ir_core.specs.{Run.StepsAfter, Sound.AllSound, Handled.{IsAnswerOr, IsAnswerTo, IsInstallAnswer}};
 ghost use Rattle.ir_core.specs.{declared.event.Way.TheVariants.{Link as WayLink}, Opened.open_refused};
@@ -15,7 +15,7 @@ use crate::board::{Board, KeptBoard};
 use crate::event::{Event, OpenError, Refused, Reply, Ruling, Step, Verdict, Way};
 use crate::opening::{Opening, open_refusal};
 use crate::packet::{Held, Record, hop_room};
-use crate::planning::{Draft, order_kept, plan_over_by, plan_up_by};
+use crate::planning::{Draft, kept_order, plan_over_by, plan_up_by};
 use crate::queue::Queue;
 use crate::verdict::judge;
 use ir_model::{Hop, Kind};
@@ -241,14 +241,14 @@ impl World {
         root: u16,
     ) -> Result<Reply, Refused>
         ensures { IsInstallAnswer self.old self.new (labelling_by self.old.opening.labels root
-            (order_kept keeps kind (newest_plan self.old.opening (sight_in self.old)).order)) kind root result }
+            (kept_order keeps kind (newest_plan self.old.opening (sight_in self.old)).order)) kind root result }
     {
         let epochs = self.plans.len();
         let newest = self.newest();
         if let Some(error) = newest.install_refusal(self.topology.nodes(), epochs, root) {
             return Err(error);
         }
-        let Ok(kept) = self.order_kept(self.alloc, keeps, kind) else {
+        let Ok(kept) = self.kept_order(self.alloc, keeps, kind) else {
             return Err(Refused::NoMemory);
         };
         let draft = Draft {
@@ -572,18 +572,18 @@ impl World {
     }
 
     /// The nodes by label that the next plan of a kind keeps, where orders are kept.
-    pub(crate) fn order_kept(
+    pub(crate) fn kept_order(
         &self,
         alloc: Global,
         keeps: bool,
         kind: Kind,
     ) -> Result<Option<Vec<u16>>, AllocError>
-        ensures { IfOk result (λ kept. items_of kept ≡ order_kept keeps kind
+        ensures { IfOk result (λ kept. items_of kept ≡ kept_order keeps kind
             (newest_plan self.now.opening (sight_in self.now)).order) }
     {
         self.invariant();
         let newest = self.plan_of(self.plans.len() as u32);
-        order_kept(alloc, keeps, kind, newest)
+        kept_order(alloc, keeps, kind, newest)
     }
 
     /// For each link of the network whether an install uses it, by the newest board.

@@ -21,6 +21,8 @@ mod examples;
 #[cfg(test)]
 mod graphs;
 #[cfg(test)]
+mod keeps;
+#[cfg(test)]
 mod lanes;
 #[cfg(test)]
 mod networks;

@@ -4,13 +4,13 @@ use Rattle.ir_core.specs.declared.event.Event.{Event}
 use Rattle.ir_core.specs.declared.event.Event.TheVariants as event
 use Rattle.ir_core.specs.declared.event.Step.TheVariants as step
 use Rattle.ir_core.specs.declared.built.Install.{Install}
-use Rattle.ir_core.specs.Installed.{ControlsOn, IsNext}
+use Rattle.ir_core.specs.Installed.{ControlsOn, IsNextInstall}
 use Rattle.ir_core.proofs.Controls.{of_installs}
 use Rattle.ir_core.proofs.built.control_event.Goals as goal
 
 pub install_next-requires-clause-next : goal.install_next-requires-clause-next
 install_next-requires-clause-next g c = λ κs le.
-    subst (λ (k : Bool). IsNext c.args.world.now k c.in-Install.kind c.in-Install.root c.in_ok-next-in-Install.next) c.keeps.ensures c.in_ok-next-in-Install.ensures
+    subst (λ (k : Bool). IsNextInstall c.args.world.now k c.in-Install.kind c.in-Install.root c.in_ok-next-in-Install.next) c.keeps.ensures c.in_ok-next-in-Install.ensures
 
 pub returns-in-Retire : goal.returns-in-Retire
 returns-in-Retire g c =

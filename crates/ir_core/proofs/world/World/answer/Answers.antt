@@ -1,5 +1,5 @@
 use Rattle.std.proofs.Common.{Bool, ap, inl, inr, refl, subst}
-use Rattle.ir_core.specs.Drafts.{order_kept, labelling_by}
+use Rattle.ir_core.specs.Drafts.{kept_order, labelling_by}
 use Rattle.ir_core.specs.Meaning.{newest_plan}
 use Rattle.ir_core.specs.Handled.{IsInstallAnswer}
 use Rattle.ir_core.specs.World.{World, sight_in}
@@ -70,7 +70,7 @@ pub returns-in-Install-clause-answer : goal.returns-in-Install-clause-answer
 returns-in-Install-clause-answer g c =
     let s = c.args.self.now in
     rw c.in-Install.is
-    (subst (λ (k : Bool). IsInstallAnswer s c.install.new.self (labelling_by s.opening.labels c.in-Install.root (order_kept k c.in-Install.kind (newest_plan s.opening (sight_in s)).order)) c.in-Install.kind c.in-Install.root c.install.result)
+    (subst (λ (k : Bool). IsInstallAnswer s c.install.new.self (labelling_by s.opening.labels c.in-Install.root (kept_order k c.in-Install.kind (newest_plan s.opening (sight_in s)).order)) c.in-Install.kind c.in-Install.root c.install.result)
     c.keeps-keeps.ensures c.install.ensures)
 
 pub returns-in-Renumber-clause-answer : goal.returns-in-Renumber-clause-answer

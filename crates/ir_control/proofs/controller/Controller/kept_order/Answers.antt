@@ -2,14 +2,14 @@ use Rattle.std.proofs.Common.{◌≡◌, ◌∙◌, ℕ, List, Option, ap, sym, 
 use Rattle.ir_model.specs.Plan.{Plan, IsPlan}
 use Rattle.ir_model.specs.Topology.{Topology, node_count}
 use Rattle.ir_plan.specs.Building.{MayLabel}
-use Rattle.ir_core.specs.Drafts.{items_of, order_kept, labelling_by}
+use Rattle.ir_core.specs.Drafts.{items_of, kept_order, labelling_by}
 use Rattle.ir_core.proofs.Labelled.{may_keep}
 use Rattle.ir_epochs.specs.declared.registry.Stamp.{Stamp}
 use Rattle.ir_epochs.specs.declared.registry.Registry.{Registry}
 use Rattle.ir_epochs.specs.Stamps.{IsOf, knows}
 use Rattle.ir_epochs.proofs.Overs.{over_nodes}
 use Rattle.ir_control.specs.Changes.{order_of}
-use Rattle.ir_control.proofs.controller.Controller.order_kept.Goals as goal
+use Rattle.ir_control.proofs.controller.Controller.kept_order.Goals as goal
 
 pub plan-current-requires : goal.plan-current-requires
 plan-current-requires g c =
@@ -18,7 +18,7 @@ plan-current-requires g c =
 
 pub returns-in-Ok-clause-kept : goal.returns-in-Ok-clause-kept
 returns-in-Ok-clause-kept g c =
-    c.in-Ok.ensures ∙ ap (λ (t : Plan). order_kept c.args.keeps c.args.kind t.order) c.plan-current.ensures ∙ ap (λ (o : Option Stamp). order_kept c.args.keeps c.args.kind (order_of o)) (sym c.stamp-stamp.ensures.last)
+    c.in-Ok.ensures ∙ ap (λ (t : Plan). kept_order c.args.keeps c.args.kind t.order) c.plan-current.ensures ∙ ap (λ (o : Option Stamp). kept_order c.args.keeps c.args.kind (order_of o)) (sym c.stamp-stamp.ensures.last)
 
 pub returns-in-Ok-clause-may : goal.returns-in-Ok-clause-may
 returns-in-Ok-clause-may g c labels root =
