@@ -6,7 +6,7 @@ use Rattle.ir_model.specs.Graph.{Name, Adjacency, names}
 use Rattle.ir_cli.specs.declared.kinds.KindChoice.{KindChoice}
 use Rattle.ir_cli.specs.declared.words.Format.{Format}
 use Rattle.ir_cli.specs.declared.words.NumberingChoice.{NumberingChoice}
-use Rattle.ir_cli.specs.declared.words.NumberingChoice.TheVariants.{DepthFirst, Tour, Keep, File}
+use Rattle.ir_cli.specs.declared.words.NumberingChoice.TheVariants.{DepthFirst, Tour, Keep, KeepDepthFirst, File}
 use Rattle.ir_cli.specs.declared.words.Words.{Words}
 use Rattle.ir_cli.specs.Answer.{Answer, Refused}
 use Rattle.ir_cli.specs.Lines.{new_line}
@@ -26,6 +26,7 @@ pub kept_takes : (numbering : NumberingChoice) (kind : KindChoice) → is_kept n
 kept_takes DepthFirst kind is = absurd (true≢false (sym is))
 kept_takes Tour kind is = absurd (true≢false (sym is))
 kept_takes Keep kind is = is
+kept_takes KeepDepthFirst kind is = absurd (true≢false (sym is))
 kept_takes (File name) kind is = absurd (true≢false (sym is))
 
 -- the first fault of a new topology is its answer
