@@ -222,6 +222,19 @@ impl<R: Wait + Drop> ByHand<R> {
         self.parts.controller.install(rt, kind, root)
     }
 
+    /// The epoch after an install that numbers anew.
+    pub(crate) fn renumber(
+        &mut self,
+        rt: &(impl Threads + Sync),
+        kind: Kind,
+        root: u16,
+    ) -> Result<Option<u32>, Refused> {
+        match self.parts.controller.renumber(rt, kind, root) {
+            Ok(receipt) => Ok(installed_by(&receipt)),
+            Err(error) => Err(error),
+        }
+    }
+
     pub(crate) fn retire(&mut self, floor: u32) -> Result<Receipt, Refused>
         ensures { IfOk result (λ t. receipt_board t ≡ writer_board self.new.parts.controller.writer) }
     {

@@ -28,6 +28,8 @@ enum Move {
     Install(u16, Option<Refused>),
     /// An install of kind Shortest of which the injector learns, and its epoch.
     InstallAndLearn(u16, u32),
+    /// An install of kind Compact that numbers anew, and its epoch.
+    Renumber(u16, u32),
     /// A retirement, and why it is refused.
     Retire(u32, Option<Refused>),
     /// Epoch 2 is installed and epoch 1 retired, of which this node learns.
@@ -211,6 +213,7 @@ static CASES: [Case; 9] = [
             Move::Install(0, None),
             Move::Inject(0, 2, Ok(0)),
             Move::InstallAndLearn(2, 3),
+            Move::Renumber(1, 4),
             Move::Inject(0, 2, Ok(1)),
         ],
         packets: &[LEFT, Became { epoch: 3, ..LEFT }],
@@ -251,6 +254,7 @@ fn moved<R: Threads + Wait + Sync>(rt: &R, hands: &mut ByHand<&R>, step: Move) -
         Move::InstallAndLearn(root, epoch) => {
             hands.install_and_learn(rt, Kind::Shortest, root) == Ok(Some(epoch))
         }
+        Move::Renumber(root, epoch) => hands.renumber(rt, Kind::Compact, root) == Ok(Some(epoch)),
         Move::Retire(floor, why) => hands.retire(floor).err() == why,
         Move::Renew(at) => renewed(rt, hands, at),
         Move::RenewAway(first, second) => turned_away(rt, hands) == Some((first, second)),
