@@ -1,13 +1,12 @@
 -- The answers that say what nodes change between two plans, by what was read before these are built.
-use Rattle.std.proofs.Common.{◌≡◌, ◌≢◌, ℕ, Bool, true, false, List, [], Option, Some, None, MatchOption, inl, inr, refl, sym, ap, subst, true≢false}
+use Rattle.std.proofs.Common.{◌≡◌, ◌≢◌, ℕ, true, List, Option, Some, None, MatchOption, inr, sym, ap, subst, true≢false}
 use Rattle.ir_model.specs.declared.Fault.{Fault}
 use Rattle.ir_model.specs.declared.Kind.{Kind}
-use Rattle.ir_model.specs.Graph.{Name, Adjacency, names}
+use Rattle.ir_model.specs.Graph.{Adjacency}
 use Rattle.ir_cli.specs.declared.kinds.KindChoice.{KindChoice}
 use Rattle.ir_cli.specs.declared.words.Format.{Format}
 use Rattle.ir_cli.specs.declared.words.NumberingChoice.{NumberingChoice}
 use Rattle.ir_cli.specs.declared.words.NumberingChoice.TheVariants.{DepthFirst, Tour, Keep, KeepDepthFirst, File}
-use Rattle.ir_cli.specs.declared.words.Words.{Words}
 use Rattle.ir_cli.specs.Answer.{Answer, Refused}
 use Rattle.ir_cli.specs.Lines.{new_line}
 use Rattle.ir_cli.specs.Openings.{topology_fault, topology_graph, AnswersNew}
@@ -26,7 +25,7 @@ pub kept_takes : (numbering : NumberingChoice) (kind : KindChoice) → is_kept n
 kept_takes DepthFirst kind is = absurd (true≢false (sym is))
 kept_takes Tour kind is = absurd (true≢false (sym is))
 kept_takes Keep kind is = is
-kept_takes KeepDepthFirst kind is = absurd (true≢false (sym is))
+kept_takes KeepDepthFirst kind is = is
 kept_takes (File name) kind is = absurd (true≢false (sym is))
 
 -- the first fault of a new topology is its answer

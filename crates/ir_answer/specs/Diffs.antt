@@ -1,5 +1,5 @@
 -- What two topologies of the same nodes come to as the text of what each node changes between their plans.
-use Rattle.std.specs.Prelude.{◌≡◌, ◌≢◌, ◌⊎◌, ℕ, Bool, true, false, if◌then◌else◌, List, [], ◌∷◌, length, Option, None, Some}
+use Rattle.std.specs.Prelude.{◌≡◌, ◌≢◌, ◌⊎◌, ℕ, Bool, false, if◌then◌else◌, List, [], ◌∷◌, length, Option, None, Some}
 use Rattle.ir_model.specs.declared.Kind.{Kind}
 use Rattle.ir_model.specs.Graph.{Name, Adjacency, names}
 use Rattle.ir_model.specs.OfGraph.{topology_of_graph}
@@ -16,7 +16,7 @@ use Rattle.ir_patches.specs.Nodes.{HaveSameNodes, IsOtherNode}
 use Rattle.ir_patches.specs.DiffText.{TwoPlans, diff_text}
 use Rattle.ir_cli.specs.declared.kinds.KindChoice.{KindChoice}
 use Rattle.ir_cli.specs.declared.words.NumberingChoice.{NumberingChoice}
-use Rattle.ir_cli.specs.declared.words.NumberingChoice.TheVariants.{Keep}
+use Rattle.ir_cli.specs.declared.words.NumberingChoice.TheVariants.{Keep, KeepDepthFirst}
 use Rattle.ir_cli.specs.declared.words.Words.{Words}
 use Rattle.ir_cli.specs.declared.read.Source.{Source}
 use Rattle.ir_cli.specs.declared.read.Source.TheVariants.{Input, Topology, New}
@@ -33,6 +33,7 @@ diff_sources words = if is_one_input words then Input ∷ [] else Topology ∷ N
 -- the new plan keeps the labels of the old one
 abbrev pub is_kept : NumberingChoice → KindChoice → Bool
 is_kept Keep kind = takes_list kind
+is_kept KeepDepthFirst kind = takes_list kind
 is_kept numbering kind = false
 
 abbrev pub keeps_labels : Words → Bool

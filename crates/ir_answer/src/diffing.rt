@@ -90,7 +90,10 @@ fn new_stop(error: OpenError) -> AnswerStop
 fn keeps_labels(words: &Words) -> bool
     ensures { result ≡ keeps_labels words.now }
 {
-    matches!(words.numbering, NumberingChoice::Keep)
+    matches!(
+        words.numbering,
+        NumberingChoice::Keep | NumberingChoice::KeepDepthFirst
+    )
         && matches!(words.kind, KindChoice::Shortest | KindChoice::Compact)
 }
 
