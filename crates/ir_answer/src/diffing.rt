@@ -93,8 +93,7 @@ fn keeps_labels(words: &Words) -> bool
     matches!(
         words.numbering,
         NumberingChoice::Keep | NumberingChoice::KeepDepthFirst
-    )
-        && matches!(words.kind, KindChoice::Shortest | KindChoice::Compact)
+    ) && matches!(words.kind, KindChoice::Shortest | KindChoice::Compact)
 }
 
 /// The text of the order that the new plan keeps, if it keeps that of the old one.
