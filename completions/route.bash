@@ -3,8 +3,8 @@
 # The subcommands below a command, which is named by its words; the program has none.
 _bentzolu_subcommands() {
     case ${1-} in
-        '') echo 'plan walk stats compare draw prefixes ranges xdp sim live check help generate convert diff sweep lab agent controller fleet completions' ;;
-        help) echo 'plan walk stats compare draw prefixes ranges xdp sim live check' ;;
+        '') echo 'plan walk stats compare diff draw prefixes ranges xdp sim live check help generate convert sweep lab agent controller fleet completions' ;;
+        help) echo 'plan walk stats compare diff draw prefixes ranges xdp sim live check' ;;
     esac
 }
 
@@ -15,6 +15,8 @@ _bentzolu_places() {
         walk,1) echo '<file>' ;;
         stats,1) echo '<file>' ;;
         compare,1) echo '<file>' ;;
+        diff,1) echo '<file>' ;;
+        diff,2) echo '<file>' ;;
         draw,1) echo '<file>' ;;
         prefixes,1) echo '<file>' ;;
         ranges,1) echo '<file>' ;;
@@ -30,8 +32,6 @@ _bentzolu_places() {
         generate,1) echo topology ;;
         convert,1) echo '<file>' ;;
         convert,2) echo '<file>' ;;
-        diff,1) echo '<file>' ;;
-        diff,2) echo '<file>' ;;
         sweep,1) echo '<file>' ;;
         sweep,2) echo '<file>' ;;
         lab,1) echo '<file>' ;;
@@ -54,6 +54,7 @@ _bentzolu_options() {
         walk) echo '-f --format -k --kind --landmarks --stretch -r --root -n --numbering --threads --from --to --json -o --output --quiet --explain --no-explain --help --color --pretty' ;;
         stats) echo '-f --format -k --kind --landmarks --stretch -r --root -n --numbering --threads --with --each --json -o --output --quiet --explain --no-explain --help --color --pretty' ;;
         compare) echo '-f --format -r --root --threads --json -o --output --quiet --explain --no-explain --help --color --pretty' ;;
+        diff) echo '-f --format -k --kind --landmarks --stretch -r --root -n --numbering --threads --json -o --output --quiet --explain --no-explain --help --color --pretty' ;;
         draw) echo '-f --format -k --kind --landmarks --stretch -r --root -n --numbering --threads --from --to --node --svg -o --output --quiet --explain --no-explain --help --color --pretty' ;;
         prefixes) echo '-f --format -k --kind --landmarks --stretch -r --root -n --numbering --threads --disjoint --json -o --output --quiet --explain --no-explain --help --color --pretty' ;;
         ranges) echo '-f --format -k --kind --landmarks --stretch -r --root -n --numbering --threads --json -o --output --quiet --explain --no-explain --help --color --pretty' ;;
@@ -73,7 +74,7 @@ _bentzolu_values() {
         plan,--landmarks) echo '<any>' ;;
         plan,--stretch) echo '<any>' ;;
         plan,-r | plan,--root) echo '<node>' ;;
-        plan,-n | plan,--numbering) echo 'depth-first tour <file>' ;;
+        plan,-n | plan,--numbering) echo 'depth-first tour keep keep,tour keep,depth-first <file>' ;;
         plan,--threads) echo '<any>' ;;
         plan,--nodes) echo '<any>' ;;
         plan,-o | plan,--output) echo '<file>' ;;
@@ -83,7 +84,7 @@ _bentzolu_values() {
         walk,--landmarks) echo '<any>' ;;
         walk,--stretch) echo '<any>' ;;
         walk,-r | walk,--root) echo '<node>' ;;
-        walk,-n | walk,--numbering) echo 'depth-first tour <file>' ;;
+        walk,-n | walk,--numbering) echo 'depth-first tour keep keep,tour keep,depth-first <file>' ;;
         walk,--threads) echo '<any>' ;;
         walk,--from) echo '<node>' ;;
         walk,--to) echo '<node>' ;;
@@ -94,10 +95,10 @@ _bentzolu_values() {
         stats,--landmarks) echo '<any>' ;;
         stats,--stretch) echo '<any>' ;;
         stats,-r | stats,--root) echo '<node>' ;;
-        stats,-n | stats,--numbering) echo 'depth-first tour <file>' ;;
+        stats,-n | stats,--numbering) echo 'depth-first tour keep keep,tour keep,depth-first <file>' ;;
         stats,--threads) echo '<any>' ;;
         stats,--with) echo '<any>' ;;
-        stats,--each) echo links nodes ;;
+        stats,--each) echo 'links nodes' ;;
         stats,-o | stats,--output) echo '<file>' ;;
         stats,--color) echo 'auto always never' ;;
         compare,-f | compare,--format) echo 'adjlist edgelist' ;;
@@ -105,12 +106,21 @@ _bentzolu_values() {
         compare,--threads) echo '<any>' ;;
         compare,-o | compare,--output) echo '<file>' ;;
         compare,--color) echo 'auto always never' ;;
+        diff,-f | diff,--format) echo 'adjlist edgelist' ;;
+        diff,-k | diff,--kind) echo 'tree shortest compact landmark' ;;
+        diff,--landmarks) echo '<any>' ;;
+        diff,--stretch) echo '<any>' ;;
+        diff,-r | diff,--root) echo '<node>' ;;
+        diff,-n | diff,--numbering) echo 'depth-first tour keep' ;;
+        diff,--threads) echo '<any>' ;;
+        diff,-o | diff,--output) echo '<file>' ;;
+        diff,--color) echo 'auto always never' ;;
         draw,-f | draw,--format) echo 'adjlist edgelist' ;;
         draw,-k | draw,--kind) echo 'tree shortest compact landmark' ;;
         draw,--landmarks) echo '<any>' ;;
         draw,--stretch) echo '<any>' ;;
         draw,-r | draw,--root) echo '<node>' ;;
-        draw,-n | draw,--numbering) echo 'depth-first tour <file>' ;;
+        draw,-n | draw,--numbering) echo 'depth-first tour keep keep,tour keep,depth-first <file>' ;;
         draw,--threads) echo '<any>' ;;
         draw,--from) echo '<node>' ;;
         draw,--to) echo '<node>' ;;
@@ -122,7 +132,7 @@ _bentzolu_values() {
         prefixes,--landmarks) echo '<any>' ;;
         prefixes,--stretch) echo '<any>' ;;
         prefixes,-r | prefixes,--root) echo '<node>' ;;
-        prefixes,-n | prefixes,--numbering) echo 'depth-first tour <file>' ;;
+        prefixes,-n | prefixes,--numbering) echo 'depth-first tour keep keep,tour keep,depth-first <file>' ;;
         prefixes,--threads) echo '<any>' ;;
         prefixes,-o | prefixes,--output) echo '<file>' ;;
         prefixes,--color) echo 'auto always never' ;;
@@ -131,7 +141,7 @@ _bentzolu_values() {
         ranges,--landmarks) echo '<any>' ;;
         ranges,--stretch) echo '<any>' ;;
         ranges,-r | ranges,--root) echo '<node>' ;;
-        ranges,-n | ranges,--numbering) echo 'depth-first tour <file>' ;;
+        ranges,-n | ranges,--numbering) echo 'depth-first tour keep keep,tour keep,depth-first <file>' ;;
         ranges,--threads) echo '<any>' ;;
         ranges,-o | ranges,--output) echo '<file>' ;;
         ranges,--color) echo 'auto always never' ;;
@@ -140,7 +150,7 @@ _bentzolu_values() {
         xdp,--landmarks) echo '<any>' ;;
         xdp,--stretch) echo '<any>' ;;
         xdp,-r | xdp,--root) echo '<node>' ;;
-        xdp,-n | xdp,--numbering) echo 'depth-first tour <file>' ;;
+        xdp,-n | xdp,--numbering) echo 'depth-first tour keep keep,tour keep,depth-first <file>' ;;
         xdp,--threads) echo '<any>' ;;
         xdp,--node) echo '<node>' ;;
         xdp,-o | xdp,--output) echo '<file>' ;;
@@ -150,7 +160,7 @@ _bentzolu_values() {
         sim,--landmarks) echo '<any>' ;;
         sim,--stretch) echo '<any>' ;;
         sim,-r | sim,--root) echo '<node>' ;;
-        sim,-n | sim,--numbering) echo 'depth-first tour' ;;
+        sim,-n | sim,--numbering) echo 'depth-first tour keep keep,tour keep,depth-first' ;;
         sim,--capacity) echo '<any>' ;;
         sim,--packets) echo '<any>' ;;
         sim,--restamps) echo '0 1 2 3' ;;
@@ -161,7 +171,7 @@ _bentzolu_values() {
         live,--landmarks) echo '<any>' ;;
         live,--stretch) echo '<any>' ;;
         live,-r | live,--root) echo '<node>' ;;
-        live,-n | live,--numbering) echo 'depth-first tour' ;;
+        live,-n | live,--numbering) echo 'depth-first tour keep keep,tour keep,depth-first' ;;
         live,--capacity) echo '<any>' ;;
         live,--packets) echo '<any>' ;;
         live,--restamps) echo '0 1 2 3' ;;
@@ -172,7 +182,7 @@ _bentzolu_values() {
         check,--landmarks) echo '<any>' ;;
         check,--stretch) echo '<any>' ;;
         check,-r | check,--root) echo '<node>' ;;
-        check,-n | check,--numbering) echo 'depth-first tour' ;;
+        check,-n | check,--numbering) echo 'depth-first tour keep keep,tour keep,depth-first' ;;
         check,--capacity) echo '<any>' ;;
         check,--packets) echo '<any>' ;;
         check,-o | check,--output) echo '<file>' ;;

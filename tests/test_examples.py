@@ -53,7 +53,7 @@ def test_cases() -> None:
     not_joined: List[str] = []
     for case in rows:
         words, sub = case["words"], case["words"][0]
-        parts = TEXTS.get(sub, 1)
+        parts = 2 if sub == "diff" else TEXTS.get(sub, 1)
         inputs = [text.encode() for text in case["inputs"]]
         orders = inputs[parts:] if "order" in words else []
         inputs = inputs[:parts] if orders else inputs

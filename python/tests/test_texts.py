@@ -28,7 +28,7 @@ class OutputsTest(unittest.TestCase):
         for case in cases():
             sub, text = case["words"][0], case["stdout"]
             with self.subTest(case["name"]):
-                if "--order" in case["words"] or "--json" in case["words"]:
+                if {"--order", "--json", "--steps"} & {*case["words"]}:
                     continue
                 if sub == "plan" and text:
                     plan = bentzolu.read_plan(text)
@@ -53,7 +53,7 @@ class OutputsTest(unittest.TestCase):
                 elif case["status"] == 1 and not case["stderr"].startswith("numbering"):
                     about, line, kind = fault_of(1, case["stderr"])
                     self.assertNotEqual(kind, "unknown")
-                    self.assertEqual(line is None, about not in ("topology", "script", "trace"))
+                    self.assertEqual(line is None, about not in ("topology", "new", "script", "trace"))
                 else:
                     continue
                 seen[sub] = seen.get(sub, 0) + 1
