@@ -58,7 +58,8 @@ fn went(world: &World, id: u32, hops: &[u16]) -> bool {
 
 /// Whether the newest board heeds link 0, and which of three links installs use by it.
 fn used(alloc: Global, world: &World) -> Option<(bool, [bool; 3])> {
-    let board = world.board_version(world.board_versions().len() - 1)?;
+    let newest = world.board_versions().len().checked_sub(1)?;
+    let board = world.board_version(newest)?;
     match board.used(alloc, 3).ok()?.as_slice() {
         [first, second, third] => Some((board.is_heeded(0), [*first, *second, *third])),
         _ => None,
