@@ -28,7 +28,7 @@ import tempfile
 from typing import Any
 
 BENCH = pathlib.Path(__file__).resolve().parent
-MOST_LINKS = 65_536  # of a topology; a hypercube of 16,384 nodes has more, and is left out
+MOST_LINKS = 131_072  # of a topology; a hypercube of 32,768 nodes has more, and is left out
 
 
 def torus(n: Any) -> list[Any]:
@@ -140,7 +140,7 @@ def measure(program: Any, file: Any, point: Any, work: Any) -> None:
 
 
 def points_of(families: Any, arguments: Any, work: Any) -> list[Any]:
-    sizes = [n for n in (1024, 2048, 4096, 8192, 16384) if n <= arguments.most]
+    sizes = [n for n in (1024, 2048, 4096, 8192, 16384, 32768) if n <= arguments.most]
     made = [network(family, n, work) for family in families for n in sizes]
     made = [(file, point) for file, point in made if point.links <= MOST_LINKS]
     for _ in range(arguments.turns):

@@ -3,6 +3,7 @@
 
     sweeps.py cost [TURNS]       seconds of a processor a failure: of the program, and of Python with its figures
     sweeps.py each [TURNS]       milliseconds a failure of `stats --each links`, and of nodes, beside a plan and `stats`, without the start
+    sweeps.py diff [TURNS]       milliseconds of `diff` beside those of `plan`: a link gone, labels kept
     sweeps.py processes [TURNS]  all single failures of random 128/256 by 1, 2 and 4 processes, by turns
     sweeps.py dask [TURNS]       tasks of 0.2 s by four processes and by four workers of dask, by turns
     sweeps.py memory             the greatest resident set of a process that makes rows of 1,584 nodes
@@ -19,6 +20,7 @@ import resource
 import statistics
 import subprocess
 import sys
+import tempfile
 import time
 from typing import Any
 
@@ -96,6 +98,22 @@ def each(turns: Any) -> None:
                   f"{node / plan:.1f} plans", flush=True)
 
 
+def diff(turns: Any) -> None:
+    nets = [("nsfnet 14/21", EXAMPLES / "nsfnet.edgelist"), ("random 1,024/4,096", made("random", 1024, 4096)),
+            ("constellation 1,584", EXAMPLES / "constellation.adjlist")]
+    with tempfile.TemporaryDirectory() as folder:
+        for name, graph in nets:
+            links = links_of(graph)
+            old, new = (pathlib.Path(folder) / it for it in ("old", "new"))
+            old.write_text("".join(f"{u} {v} 1\n" for u, v in links))
+            new.write_text("".join(f"{u} {v} 1\n" for u, v in (*links[:len(links) // 2], *links[len(links) // 2 + 1:])))
+            for kind in ("shortest", "compact"):
+                rest = ["--kind", kind, "--format", "edgelist", "--threads", "1", "--quiet"]
+                rows = [(took("plan", *rest, str(old)), took("diff", "--numbering", "keep", *rest, str(old), str(new))) for _ in range(turns)]
+                plan, change = (min(column) for column in zip(*rows))
+                print(f"{name}, {kind}: plan {plan:.1f} ms, diff {change:.1f} ms, {change / plan:.2f} plans", flush=True)
+
+
 def processes(turns: Any) -> None:
     graph = made("random", 128, 256)
     found: Any = {}
@@ -161,7 +179,7 @@ def memory() -> None:
 
 def main() -> None:
     what, turns = sys.argv[1], int(sys.argv[2]) if len(sys.argv) > 2 else 3
-    parts: Any = {"cost": cost, "each": each, "processes": processes, "dask": dask, "memory": lambda _: memory()}
+    parts: Any = {"cost": cost, "each": each, "diff": diff, "processes": processes, "dask": dask, "memory": lambda _: memory()}
     parts[what](turns)
 
 

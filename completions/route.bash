@@ -197,7 +197,7 @@ _bentzolu_nodes() {
         [ -f "$file" ] || continue
         case " ${COMP_WORDS[*]} $file " in
             *edgelist* | *.wel\ *) words=2 ;;
-            *) words=16384 ;;
+            *) words=32768 ;;
         esac
         head -c 1048576 -- "$file" | sed 's/#.*//' | FRONT=${1-} awk -v most="$words" '
             { for (i = 1; i <= NF && i <= most; i++) if (index($i, ENVIRON["FRONT"]) == 1) print $i }' | LC_ALL=C sort -u

@@ -25,7 +25,7 @@ function __bentzolu_nodes
     set -l words (commandline -opc)
     for file in $words[3..-1]
         test -f $file; or continue
-        set -l most 16384
+        set -l most 32768
         string match -qr 'edgelist|\.wel ' -- " $words $file "; and set most 2
         head -c 1048576 -- $file | sed 's/#.*//' | awk -v most=$most '
             { for (i = 1; i <= NF && i <= most; i++) print $i }' | env LC_ALL=C sort -u

@@ -1,6 +1,6 @@
 // Texts into graphs and traces, as `route` reads them. Nothing here draws.
 
-export const MOST_NODES = 16384, MOST_EDGES = 65536, MOST_NAME = 64, MOST_WEIGHT = 65535, MOST_NUMBER = 4294967295;
+export const MOST_NODES = 32768, MOST_EDGES = 131072, MOST_NAME = 64, MOST_WEIGHT = 65535, MOST_NUMBER = 4294967295;
 export const MOST_SEGMENTS = 4, MOST_BYTES = 16777216;
 // Where packets travel.
 export const MOST_NET_NODES = 1024, MOST_NET_LINKS = 8192;

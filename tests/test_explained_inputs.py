@@ -151,7 +151,7 @@ def test_explained_topologies() -> None:
     for name, text, line, sentence in topology_mistakes():
         file = put(f"said/{name}", text)
         explained_as(f"topology {line} in {name}", ["plan", file], f"topology {line}", f"{file}{sentence}")
-    edges = [f"n{u} n{v} 1\n" for u in range(400) for v in range(u)][: GRAPH_EDGES + 1]
+    edges = [f"n{u} n{v} 1\n" for u in range(520) for v in range(u)][: GRAPH_EDGES + 1]
     file = put("said/edges.edgelist", "".join(edges))
     explained_as("too many edges", ["plan", file], f"topology {GRAPH_EDGES + 1} TooManyEdges",
                  f"{file}:{GRAPH_EDGES + 1}: too many edges: a topology has at most {GRAPH_EDGES}")

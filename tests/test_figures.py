@@ -98,8 +98,9 @@ def test_beside() -> None:
     count("rings of two plans that have none alone", None if both > 0 else "there is no such pair")
 
 
-def left_of(words_: List[str], text: str) -> str:
-    """What a line of `stats --each` says of a network, by what `stats` prints of it."""
+def left_of(words_: List[str], text: str, held: Optional[Waits]) -> str:
+    """What a line of `stats --each` says of a network, by what `stats` prints of it. Where links of a plan over the whole network may be held
+    too, a ring of both is looked for by the names of the nodes."""
     output, faults, status = run(["stats", *words_, "--format", "edgelist", "-"], text.encode())
     if status == 1 and faults == b"opening Disconnected\n":
         return "disconnected"
@@ -107,40 +108,87 @@ def left_of(words_: List[str], text: str) -> str:
     mean, worst = "-", "-"
     if "worst" in told:
         mean, worst = f"{told['walks']}/{told['distances']}", "/".join(told["worst"].split()[2:])
-    return " ".join([told["starts"], told["greatest-row"].split()[1], told["bits"].split()[0], mean, worst, told["dependencies"].split()[0]])
+    both = []
+    if held is not None:
+        plan = run(["plan", *words_, "--format", "edgelist", "-"], text.encode())[0].decode()
+        both = ["cycle" if has_ring(held | waits_of(plan)) else "acyclic"]
+    return " ".join([told["starts"], told["greatest-row"].split()[1], told["bits"].split()[0], mean, worst, told["dependencies"].split()[0], *both])
 
 
-def without_links(words_: List[str], nodes: List[str], edges: List[Tuple[str, str, int]]) -> str:
+def without_links(words_: List[str], nodes: List[str], edges: List[Tuple[str, str, int]], held: Optional[Waits] = None) -> str:
     """The text of `stats --each links` by that of `stats` for each network. A node has a line of its own before all links, so that it keeps
     its place whatever link is missing."""
     heads = "".join(f"{node} {node} 1\n" for node in nodes)
     lines = [f"{u} {v} {weight}\n" for u, v, weight in edges]
     place = {node: at for at, node in enumerate(nodes)}
     kind = words_[words_.index("--kind") + 1]
-    texts = [f"each links {kind} {len(nodes)} {len(edges)} {left_of(words_, heads + ''.join(lines))}\n"]
+    texts = [f"each links {kind} {len(nodes)} {len(edges)} {left_of(words_, heads + ''.join(lines), held)}\n"]
     for u, v, _ in sorted(edges, key=lambda edge: min(place[edge[0]], place[edge[1]])):  # links stand by their first node, and then as they were read
         at = next(i for i, edge in enumerate(edges) if edge[:2] == (u, v))
         low, high = sorted((u, v), key=place.__getitem__)
-        texts.append(f"{low} {high} {left_of(words_, heads + ''.join(lines[:at] + lines[at + 1:]))}\n")
+        texts.append(f"{low} {high} {left_of(words_, heads + ''.join(lines[:at] + lines[at + 1:]), held)}\n")
     return "".join(texts)
 
 
-def without_nodes(words_: List[str], nodes: List[str], edges: List[Tuple[str, str, int]]) -> str:
+def without_nodes(words_: List[str], nodes: List[str], edges: List[Tuple[str, str, int]], held: Optional[Waits] = None) -> str:
     """The text of `stats --each nodes`, in the same way: by `stats` for the network without a node and its links. Where the root is the node
     that fails, the first one is the root; an order in a file leaves the node out."""
     def net(left: List[str]) -> str:
         return "".join(f"{u} {u} 1\n" for u in left) + "".join(f"{u} {v} {weight}\n" for u, v, weight in edges if u in left and v in left)
 
     kind = words_[words_.index("--kind") + 1]
-    texts = [f"each nodes {kind} {len(nodes)} {len(edges)} {left_of(words_, net(nodes))}\n"]
+    texts = [f"each nodes {kind} {len(nodes)} {len(edges)} {left_of(words_, net(nodes), held)}\n"]
     for k in nodes:
         words = list(words_)
         if k in words:
             del words[words.index(k) - 1:words.index(k) + 1]
         if words[-1].endswith(".order"):
             words[-1] = put("each/left.order", "".join(f"{u}\n" for u in pathlib.Path(work(words[-1])).read_text().split() if u != k))
-        texts.append(f"{k} {left_of(words, net([u for u in nodes if u != k])) if len(nodes) > 1 else 'empty'}\n")
+        texts.append(f"{k} {left_of(words, net([u for u in nodes if u != k]), held) if len(nodes) > 1 else 'empty'}\n")
     return "".join(texts)
+
+
+def held_by(words_: List[str], second: List[str], net: str) -> Waits:
+    """Which links wait for which by a second plan of a kind, and of a root if there are two words, over a whole network."""
+    stretch = words_[words_.index("--stretch"):][:2] if "--stretch" in words_ and second[0] == "landmark" else []
+    root = second[1:] or [words_[words_.index("--root") + 1]]
+    return waits_of(run(["plan", "--kind", second[0], *stretch, "--root", root[0], net])[0].decode())
+
+
+def test_each_beside() -> None:
+    """Each line of `stats --each --with` says last whether there is a ring of the plan without a link or a node, and of the second plan, which
+    keeps it, by a search over links as the names of their two nodes. All kinds are among both, and orders in a file. The other words are those
+    without `--with`. What is refused."""
+    luck, kinds = random.Random(2), ("tree", "shortest", "compact", "landmark")
+    rings = {"acyclic": 0, "cycle": 0}
+    for turn in range(20):
+        count_ = luck.randint(2, 11)
+        nodes = [f"n{u}" for u in range(count_)]
+        chosen = {(luck.randrange(v), v) for v in range(1, count_)}
+        chosen |= {(min(two), max(two)) for two in (luck.sample(range(count_), 2) for _ in range(luck.randint(0, 2 * count_)))}
+        edges = [(f"n{u}", f"n{v}", luck.randint(1, 4)) for u, v in luck.sample(sorted(chosen), len(chosen))]
+        net = put(f"both/each{turn}.edgelist", "".join(f"{u} {u} 1\n" for u in nodes) + "".join(f"{u} {v} {weight}\n" for u, v, weight in edges))
+        order = put(f"both/each{turn}.order", "".join(f"{node}\n" for node in luck.sample(nodes, count_)))
+        root = ["--root", luck.choice(nodes)]
+        for words_, second in ((["--kind", kinds[turn % 4], *(["--stretch", "200"] if turn % 4 == 3 else []), *root], [luck.choice(kinds)]),
+                               (["--kind", luck.choice(["shortest", "compact"]), "--numbering", order], [kinds[turn % 3], luck.choice(nodes)])):
+            held = held_by(words_, second, net)
+            for what, told in (("links", without_links(words_, nodes, edges, held)), ("nodes", without_nodes(words_, nodes, edges, held))):
+                each = ["stats", "--each", what, *words_, "--with", ",".join(second)]
+                expect(f"network {turn} without each of its {what}, {words_[1]} with {second}", run([*each, net]), told.encode(), b"", 0)
+                shown = run([*each, "--threads", "3", "--json", net])
+                expect(f"the same as JSON, network {turn} without {what}", shown, json_of("each", told)[1].encode(), b"", 0)
+                for line in told.splitlines()[1:]:
+                    rings[line.split()[-1]] = rings.get(line.split()[-1], 0) + 1
+    count("lines with a ring of both, and without", None if min(rings["acyclic"], rings["cycle"]) > 9 else f"they are too few: {rings}")
+    ring = put("both/small.adjlist", "a b c\nb c\nc d\n")
+    for what in ("links", "nodes"):
+        expect(f"a second root that is none, {what}", run(["stats", "--each", what, "--with", "tree,x", ring]), b"", b"opening NoNode\n", 1)
+        expect(f"a second plan of no kind, {what}", run(["stats", "--each", what, "--with", "trees", ring]), b"", SOME, 2)
+        cut = run(["stats", "--each", what, "--with", "tree", "-"], b"a b\nc d\n")
+        expect(f"a network that is in parts, with a tree, {what}", cut, b"", b"opening Disconnected\n", 1)
+    lone = run(["stats", "--each", "nodes", "--with", "tree", "-"], b"a\n")
+    expect("a network of one node, with a tree", lone, b"each nodes shortest 1 0 0 0 0 - - acyclic acyclic\na empty\n", b"", 0)
 
 
 def test_each() -> None:

@@ -192,7 +192,7 @@ def test_front_generate() -> None:
     expect("a first plan", run(["stats", "-"], made, program=script), SOME, b"", 0)
     wrong: List[Tuple[List[str], bytes]] = [
         (["gird", "3", "3"], b"did you mean 'grid'?"), (["grid", "3"], b"ROWS and COLUMNS"), (["random", "3", "100"], b"2 to 3 links"),
-        (["complete", "60000"], b"at most 65,536"), (["ring", "x"], b"whole number"), (["fattree", "3"], b"even"), ([], b"families are")]
+        (["complete", "60000"], b"at most 131,072"), (["ring", "x"], b"whole number"), (["fattree", "3"], b"even"), ([], b"families are")]
     for words_, said in wrong:
         got = run(["generate", "topology", *words_], program=script)
         count(f"generate topology {words_}", None if got[0] == b"" and said in got[1] and got[2] == 2 and got[1].count(b"\n") == 1 else str(got))

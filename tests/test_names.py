@@ -360,7 +360,7 @@ def unmade(crate: str, edit: str) -> Optional[str]:
 
 
 SAID = [  # numbers of which speed or memory hangs and no clause: the crate, the constant, its number, and how DECISIONS says it
-    ("ir_plan", "MOST_MARK_BYTES", 256 << 20, "up to 256 MiB** (`MOST_MARK_BYTES`)"),
+    ("ir_plan", "MOST_MARK_BYTES", 1 << 30, "up to 1 GiB** (`MOST_MARK_BYTES`)"),
     ("ir_worker", "LOOKS", 2, "gives way twice before it sleeps (`LOOKS`)"),
     ("ir_lanes", "MOST_SWEEPS", 64, "A batch has 64 sweeps or the work of 20 passes"),
     ("ir_lanes", "MOST_PASSES", 20, "A batch has 64 sweeps or the work of 20 passes"),

@@ -10,7 +10,7 @@ from typing import Iterator, List, Tuple
 
 from support.book import ByTheBook, ranges_of, starts_in
 from support.checks import count
-from support.limits import GRAPH_NODES, GREAT_SECONDS
+from support.limits import GRAPH_NODES, GREAT_SECONDS, TABLE_LABELS
 from support.marks import built
 from support.networks import circle, lone
 from support.places import TOP, program, work
@@ -192,6 +192,8 @@ def test_lines() -> None:
     refused("lines of parts", run(["xdp", "table", "1", "--node", "a", put("lined/apart", "a b\nc d\n")]), "opening Disconnected")
     refused("lines of too many labels", run(["xdp", "table", "1", "--node", "n0", put("lined/more", lone(GRAPH_NODES + 1))]),
             f"topology {GRAPH_NODES + 1} TooManyNodes")
+    refused("lines of more labels than a table has", run(["xdp", "table", "1", "--node", "a", put("lined/wide", lone(TABLE_LABELS + 1))]),
+            "opening TooLarge")
     others: List[List[str]] = [["table", "0"], ["table", "65536"], ["table", "-1"], ["table", "one"], ["tables", "1"], ["1", "table"], ["table"], []]
     for words_ in others:
         expect(f"not understood: xdp {words_}", run(["xdp", *words_, "--node", "a", good]), b"", SOME, 2)

@@ -50,7 +50,6 @@ def test_words() -> None:
 
 RULES = [  # words that break a rule on others, and what the program says of each
     (["draw", "--node", "a", "--from", "a", "--to", "b"], "'--node' cannot be used with '--from' or '--to'"),
-    (["stats", "--each", "links", "--with", "tree"], "'--each' cannot be used with '--with'"),
     (["draw", "--node", "a", "--to", "b"], "'--node' cannot be used with '--from' or '--to'"),
     (["draw", "--from", "a"], "'--from' requires '--to'"),
     (["draw", "--to", "a"], "'--to' requires '--from'"),

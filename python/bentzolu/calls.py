@@ -73,7 +73,7 @@ def plan(graph: Network, kind: str | None = None, root: Any = None, *, options: 
     Parameters
     ----------
     graph : graph of NetworkX, list of edges `(u, v)` or `(u, v, weight)`, or path of a file
-        The network. It is connected and has at most 16,384 nodes and 65,536 edges.
+        The network. It is connected and has at most 32,768 nodes and 131,072 edges.
     kind : str, optional
         `"shortest"` (the default), `"compact"`, `"tree"` or `"landmark"`.
     root : node, optional
@@ -269,13 +269,23 @@ def compare(graph: Network, root: Any = None, *, options: Options | None = None,
     return texts.read_comparison(said.output)
 
 
-def link_failures(graph: Network, kind: str | None = None, root: Any = None, *, options: Options | None = None, **named: Any) -> LinkFailures:
+def second_words(beside: str | None) -> list[str]:
+    """The words for a second plan of this kind, if there is one."""
+    return [] if beside is None else ["--with", beside]
+
+
+def link_failures(
+    graph: Network, kind: str | None = None, root: Any = None, beside: str | None = None, *, options: Options | None = None, **named: Any,
+) -> LinkFailures:
     """The figures of the graph's plan, and of the plan without each link: all made by one call of the program.
 
     Parameters
     ----------
     graph, kind, root, options, **named
         As for `plan`.
+    beside : str, optional
+        The kind of a second plan over the whole network. Then the figures say as `together` whether links can wait for each other in a
+        ring while packets of both plans are under way, as where the plan changes after the failure.
 
     Returns
     -------
@@ -293,13 +303,18 @@ def link_failures(graph: Network, kind: str | None = None, root: Any = None, *, 
     >>> found = bentzolu.link_failures([("a", "b"), ("b", "c"), ("c", "a"), ("c", "d")])
     >>> [(failure.link, failure.figures and failure.figures.bits) for failure in found.failures]
     [(('a', 'b'), 18), (('a', 'c'), 16), (('b', 'c'), 16), (('c', 'd'), None)]
+    >>> found = bentzolu.link_failures([("a", "b"), ("b", "c"), ("c", "a"), ("c", "d")], "tree", beside="tree")
+    >>> [failure.figures and failure.figures.together for failure in found.failures]
+    [False, False, False, None]
     """
     given = chosen(options, named, kind=kind, root=root)
-    output, names = asked("stats", graph, chosen(given, {"words": [*given.words, "--each", "links"]}))
+    output, names = asked("stats", graph, chosen(given, {"words": [*given.words, "--each", "links", *second_words(beside)]}))
     return read_link_failures(output, names)
 
 
-def node_failures(graph: Network, kind: str | None = None, root: Any = None, *, options: Options | None = None, **named: Any) -> NodeFailures:
+def node_failures(
+    graph: Network, kind: str | None = None, root: Any = None, beside: str | None = None, *, options: Options | None = None, **named: Any,
+) -> NodeFailures:
     """The figures of the graph's plan, and of the plan without each node: all made by one call of the program.
 
     Where the root fails, the plan is made from the first node that is left.
@@ -308,6 +323,9 @@ def node_failures(graph: Network, kind: str | None = None, root: Any = None, *, 
     ----------
     graph, kind, root, options, **named
         As for `plan`.
+    beside : str, optional
+        The kind of a second plan over the whole network. Then the figures say as `together` whether links can wait for each other in a
+        ring while packets of both plans are under way, as where the plan changes after the failure.
 
     Returns
     -------
@@ -327,7 +345,7 @@ def node_failures(graph: Network, kind: str | None = None, root: Any = None, *, 
     [('a', 4), ('b', 4), ('c', None), ('d', 6)]
     """
     given = chosen(options, named, kind=kind, root=root)
-    output, names = asked("stats", graph, chosen(given, {"words": [*given.words, "--each", "nodes"]}))
+    output, names = asked("stats", graph, chosen(given, {"words": [*given.words, "--each", "nodes", *second_words(beside)]}))
     return read_node_failures(output, names)
 
 

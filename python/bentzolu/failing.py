@@ -18,7 +18,8 @@ class LinkFigures(NamedTuple):
 
     `intervals` is the number of intervals of all nodes, `greatest_row` that of the node with the most, `bits` those of all rows.
     `stretch` is the sum of the walks over that of the distances, and `worst` the greatest stretch of a pair; both are None for a single
-    node. `ring` says whether links can wait for each other in a ring.
+    node. `ring` says whether links can wait for each other in a ring. `together` says whether they can while packets of a second plan, over
+    the whole network, are under way too; it is None where there was no second plan.
     """
 
     intervals: int
@@ -27,6 +28,7 @@ class LinkFigures(NamedTuple):
     stretch: Optional[Fraction]
     worst: Optional[Fraction]
     ring: bool
+    together: Optional[bool] = None
 
 
 class LinkFailure(NamedTuple):
@@ -69,11 +71,13 @@ def read_fraction(word: str, line: int) -> Optional[Fraction]:
 
 
 def read_figures(words: List[str], line: int) -> LinkFigures:
-    """The six figures of a line."""
-    if len(words) != 6 or words[5] not in ("acyclic", "cycle"):
-        raise FormatError("a line has six figures, of which the last is 'acyclic' or 'cycle'", line)
+    """The figures of a line: six, and a seventh where there is a second plan."""
+    rings = words[5:]
+    if len(rings) not in (1, 2) or any(word not in ("acyclic", "cycle") for word in rings):
+        raise FormatError("a line has five figures, and after them 'acyclic' or 'cycle' once or twice", line)
     intervals, greatest_row, bits = (number(word, line) for word in words[:3])
-    return LinkFigures(intervals, greatest_row, bits, read_fraction(words[3], line), read_fraction(words[4], line), words[5] == "cycle")
+    mean, worst = (read_fraction(word, line) for word in words[3:5])
+    return LinkFigures(intervals, greatest_row, bits, mean, worst, rings[0] == "cycle", rings[1] == "cycle" if len(rings) == 2 else None)
 
 
 def headed_by(text: str, what: str) -> Tuple[List[str], List[Tuple[int, List[str]]]]:

@@ -33,7 +33,7 @@ from typing import Any, Callable, Dict, FrozenSet, List, Sequence, Tuple
 
 Link = Tuple[Any, ...]  # two names, and a weight where the family has its own
 Made = Tuple[str, Sequence[Link]]  # what it is, and its links
-MOST_NODES, MOST_LINKS = 16_384, 65_536  # of a network that the program takes
+MOST_NODES, MOST_LINKS = 32_768, 131_072  # of a network that the program takes
 
 
 def ring(nodes: int) -> Made:

@@ -73,7 +73,7 @@ class FamiliesTest(unittest.TestCase):
 
     def test_refused(self) -> None:
         for words, said in (("gird 3 3", "did you mean 'grid'"), ("grid 3", "ROWS and COLUMNS; 1 number was given"), ("random 3 9", "has 2 to 3 links"),
-                            ("scalefree 3 3", "fewer LINKS"), ("fattree 3", "even"), ("hypercube 60", "at most 65,536"), ("ring 2", "at least 3"),
+                            ("scalefree 3 3", "fewer LINKS"), ("fattree 3", "even"), ("hypercube 60", "at most 131,072"), ("ring 2", "at least 3"),
                             ("path 1.5", "whole number")):
             self.assertIn(said, families.why_not(words.split()))
 

@@ -190,7 +190,7 @@ class PageTest(unittest.TestCase):
                 said = said[: len(rows)]
             self.assertEqual(said, rows, command)
             count += 1
-        self.assertEqual(count, 6)
+        self.assertEqual(count, 7)
         self.assertTrue((self.folder / "worst.png").read_bytes().startswith(b"\x89PNG"))
 
     def test_lines_of_python(self) -> None:

@@ -108,7 +108,7 @@ def compared(row: Any) -> dict[Any, Any]:
 
 def measured(row: Any) -> dict[Any, Any]:
     return {**fields("#intervals #greatest-row #bits", row), "mean-stretch": parts(row[3], "/", ("walks", "distances")),
-            "worst-stretch": parts(row[4], "/", ("walk", "distance")), "dependencies": row[5]}
+            "worst-stretch": parts(row[4], "/", ("walk", "distance")), **fields("dependencies together", row[5:])}
 
 
 def failure(row: Any) -> dict[Any, Any]:

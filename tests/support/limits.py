@@ -5,7 +5,8 @@ import os
 
 from support.places import TOP
 
-GRAPH_NODES, GRAPH_EDGES = 16_384, 65_536  # of a topology: MAX_NODES and MAX_EDGES of ir_model
+GRAPH_NODES, GRAPH_EDGES = 32_768, 131_072  # of a topology: MAX_NODES and MAX_EDGES of ir_model
+TABLE_LABELS = 16_384  # of a table in lines: MAX_LABELS of ir_exports
 NET_NODES, NET_LINKS = 1_024, 8_192  # where packets travel: MAX_NODES and MAX_LINKS of ir_core
 TOUR_NODES = 4_096  # above which no tour is made: MOST_TOUR_NODES of ir_plan
 INPUT_BYTES = 16_777_216  # of an input: MAX_INPUT_BYTES of ir_streams

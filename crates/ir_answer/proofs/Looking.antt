@@ -30,8 +30,8 @@ use Rattle.ir_cli.specs.Openings.{topology_fault, topology_graph, root_name, roo
 use Rattle.ir_cli.specs.declared.words.Sub.{Sub}
 use Rattle.ir_cli.specs.declared.words.Sub.TheVariants.{Plan as Planning, Walk, Stats, Compare, Diff, Draw, Prefixes, Ranges as Ranging, Xdp, Sim, Live, Check}
 use Rattle.ir_answer.specs.declared.look.Show.{Show}
-use Rattle.ir_answer.specs.declared.look.Show.TheVariants.{Between, Beside, Drawing, Circle}
-use Rattle.ir_answer.specs.Looks.{from_name, to_name, drawn_name, Says, AnswerShows, AnswersEnds, AnswersBothEnds, AnswersDrawn, AnswersBeside, AnswersFigures, AnswersShow, AnswersAsked, AnswersLook, AnswersLabels, AreTexts, LookAnswers, IsNode, IsLabelling, AreBeside, AreShown, IsNetwork, IsOneDrawn, IsShow, lines_shown, RefusesLabels, RefusesEnds, RefusesFigures, RefusesShow, AnswersPlanned, AnswersWithin, IsPlanned, RefusesPlanned, are_nodes}
+use Rattle.ir_answer.specs.declared.look.Show.TheVariants.{Between, Drawing, Circle}
+use Rattle.ir_answer.specs.Looks.{from_name, to_name, drawn_name, Says, AnswerShows, AnswersEnds, AnswersBothEnds, AnswersDrawn, AnswersFigures, AnswersShow, AnswersAsked, AnswersLook, AnswersLabels, AreTexts, LookAnswers, IsNode, IsLabelling, AreShown, IsNetwork, IsOneDrawn, IsShow, lines_shown, RefusesLabels, RefusesEnds, RefusesLined, RefusesShow, AnswersLined, AreLined, has_lines, AnswersPlanned, AnswersWithin, IsPlanned, RefusesPlanned, are_nodes, AnswersSecond, IsSecondPlan, figures_shown, RefusesSecond}
 use Rattle.ir_plan.specs.Building.{Labelling, FromRoot, ByList, IsPlanBy, RefusesPlan}
 use Rattle.ir_show.specs.Alone.{IsWalkOfPlan}
 use Rattle.ir_answer.specs.Plans.{AnswersText, IsTextOfPlan}
@@ -99,16 +99,16 @@ of_drawn None is_svg from to g answers show answer is holds = of_network from to
 of_drawn (Some node) is_svg from to g answers show answer (u, is, same) holds =
     of_root g (Some node) (λ v. answers (Circle v is_svg)) answer u is (subst (λ (s : Show). answers s answer) same holds)
 
-of_beside : (detour : Detour) (second : Option Second) (g : Adjacency) (answers : Show → Answer → Type 0) (show : Show) (answer : Answer)
-    → AreBeside detour second g show → answers show answer → AnswersBeside detour second g answers answer
-of_beside detour None g answers show answer same holds = subst (λ (s : Show). answers s answer) same holds
-of_beside detour (Some second) g answers show answer (root, is, same) holds =
-    of_root g (option_map string_bytes second.root) (λ u. answers (Beside (kind_of second.kind detour) u)) answer root is (subst (λ (s : Show). answers s answer) same holds)
+of_second : (detour : Detour) (second : Option Second) (g : Adjacency) (answers : Option (Kind × ℕ) → Answer → Type 0) (found : Option (Kind × ℕ)) (answer : Answer)
+    → IsSecondPlan detour second g found → answers found answer → AnswersSecond detour second g answers answer
+of_second detour None g answers found answer same holds = subst (λ (s : Option (Kind × ℕ)). answers s answer) same holds
+of_second detour (Some second) g answers found answer (root, is, same) holds =
+    of_root g (option_map string_bytes second.root) (λ u. answers (Some (kind_of second.kind detour, u))) answer root is (subst (λ (s : Option (Kind × ℕ)). answers s answer) same holds)
 
-of_figures : (each : Bool) (words : Words) (g : Adjacency) (answers : Show → Answer → Type 0) (show : Show) (answer : Answer)
-    → AreShown each words g show → answers show answer → AnswersFigures each words g answers answer
-of_figures true words g answers show answer same holds = subst (λ (s : Show). answers s answer) same holds
-of_figures false words g answers show answer is holds = of_beside (detour_of words.detour (length g)) words.second g answers show answer is holds
+of_figures : (words : Words) (g : Adjacency) (answers : Show → Answer → Type 0) (show : Show) (answer : Answer)
+    → AreShown words g show → answers show answer → AnswersFigures words g answers answer
+of_figures words g answers show answer (second, is, same) holds =
+    of_second (detour_of words.detour (length g)) words.second g (λ found. answers (figures_shown words g found)) second answer is (subst (λ (s : Show). answers s answer) same holds)
 
 of_rows : (order_alone : Bool) (span : Option Span) (g : Adjacency) (answers : Show → Answer → Type 0) (show : Show) (answer : Answer)
     → IsPlanned order_alone span g show → answers show answer → AnswersPlanned order_alone span g answers answer
@@ -117,17 +117,22 @@ of_rows false None g answers show answer same holds = subst (λ (s : Show). answ
 of_rows false (Some span) g answers show answer (are, same) holds =
     subst (λ (b : Bool). AnswersWithin b span g answers answer) (sym are) (subst (λ (s : Show). answers s answer) same holds)
 
+of_lined : (words : Words) (g : Adjacency) (answers : Show → Answer → Type 0) (show : Show) (answer : Answer)
+    → AreLined words g show → answers show answer → AnswersLined (has_lines g) words g answers answer
+of_lined words g answers show answer (few, (u, is, same)) holds =
+    subst (λ (b : Bool). AnswersLined b words g answers answer) (sym few)
+    (of_root g (drawn_name words) (λ v. answers (lines_shown words v)) answer u is (subst (λ (s : Show). answers s answer) same holds))
+
 of_show : (look : Sub) (words : Words) (g : Adjacency) (answers : Show → Answer → Type 0) (show : Show) (answer : Answer)
     → IsShow look words g show → answers show answer → AnswersAsked look words g answers answer
 of_show Planning words g answers show answer is holds = of_rows words.order_alone words.nodes g answers show answer is holds
 of_show Walk words g answers show answer (a, b, first, second, same) holds =
     of_ends g (from_name words) (to_name words) (λ x y. answers (Between x y)) answer a b first second (subst (λ (s : Show). answers s answer) same holds)
-of_show Stats words g answers show answer is holds = of_figures words.each words g answers show answer is holds
+of_show Stats words g answers show answer is holds = of_figures words g answers show answer is holds
 of_show Draw words g answers show answer is holds = of_drawn (drawn_name words) words.svg (from_name words) (to_name words) g answers show answer is holds
 of_show Prefixes words g answers show answer same holds = subst (λ (s : Show). answers s answer) same holds
 of_show Ranging words g answers show answer same holds = subst (λ (s : Show). answers s answer) same holds
-of_show Xdp words g answers show answer (u, is, same) holds =
-    of_root g (drawn_name words) (λ v. answers (lines_shown words v)) answer u is (subst (λ (s : Show). answers s answer) same holds)
+of_show Xdp words g answers show answer is holds = of_lined words g answers show answer is holds
 of_show Compare words g answers show answer none holds = absurd none
 of_show Diff words g answers show answer none holds = absurd none
 of_show Sim words g answers show answer none holds = absurd none
@@ -145,15 +150,10 @@ refuses_drawn : (node : Option Name) (is_svg : Bool) (from to : Option Name) (g 
 refuses_drawn None is_svg from to g answers line refuses = refuses_network from to g answers line refuses
 refuses_drawn (Some node) is_svg from to g answers line refuses = option_more (root_in (names g) (Some node)) (λ same. same) (λ u none. absurd none) refuses
 
-refuses_beside : (detour : Detour) (second : Option Second) (g : Adjacency) (answers : Show → Answer → Type 0) (line : List ℕ)
-    → AnswersBeside detour second g (λ show answer. ⊥) (Refused line) → AnswersBeside detour second g answers (Refused line)
-refuses_beside detour None g answers line refuses = absurd refuses
-refuses_beside detour (Some second) g answers line refuses = option_more (root_in (names g) (option_map string_bytes second.root)) (λ same. same) (λ u none. absurd none) refuses
-
-refuses_figures : (each : Bool) (words : Words) (g : Adjacency) (answers : Show → Answer → Type 0) (line : List ℕ)
-    → RefusesFigures each words g line → AnswersFigures each words g answers (Refused line)
-refuses_figures true words g answers line refuses = absurd refuses
-refuses_figures false words g answers line refuses = refuses_beside (detour_of words.detour (length g)) words.second g answers line refuses
+refuses_figures : (detour : Detour) (second : Option Second) (g : Adjacency) (answers : Option (Kind × ℕ) → Answer → Type 0) (line : List ℕ)
+    → RefusesSecond detour second g line → AnswersSecond detour second g answers (Refused line)
+refuses_figures detour None g answers line refuses = absurd refuses
+refuses_figures detour (Some second) g answers line refuses = option_more (root_in (names g) (option_map string_bytes second.root)) (λ same. same) (λ u none. absurd none) refuses
 
 refuses_within : (are : Bool) (span : Span) (g : Adjacency) (answers : Show → Answer → Type 0) (line : List ℕ)
     → AnswersWithin are span g (λ show answer. ⊥) (Refused line) → AnswersWithin are span g answers (Refused line)
@@ -166,15 +166,20 @@ refuses_rows true span g answers line refuses = absurd refuses
 refuses_rows false None g answers line refuses = absurd refuses
 refuses_rows false (Some span) g answers line refuses = refuses_within (are_nodes span g) span g answers line refuses
 
+refuses_lined : (few : Bool) (words : Words) (g : Adjacency) (answers : Show → Answer → Type 0) (line : List ℕ)
+    → RefusesLined few words g line → AnswersLined few words g answers (Refused line)
+refuses_lined true words g answers line refuses = option_more (root_in (names g) (drawn_name words)) (λ same. same) (λ u none. absurd none) refuses
+refuses_lined false words g answers line refuses = refuses
+
 refuses_show : (look : Sub) (words : Words) (g : Adjacency) (answers : Show → Answer → Type 0) (line : List ℕ)
     → RefusesShow look words g line → AnswersAsked look words g answers (Refused line)
 refuses_show Planning words g answers line refuses = refuses_rows words.order_alone words.nodes g answers line refuses
 refuses_show Walk words g answers line refuses = refuses_ends g (from_name words) (to_name words) (λ x y. answers (Between x y)) line refuses
-refuses_show Stats words g answers line refuses = refuses_figures words.each words g answers line refuses
+refuses_show Stats words g answers line refuses = refuses_figures (detour_of words.detour (length g)) words.second g (λ found. answers (figures_shown words g found)) line refuses
 refuses_show Draw words g answers line refuses = refuses_drawn (drawn_name words) words.svg (from_name words) (to_name words) g answers line refuses
 refuses_show Prefixes words g answers line refuses = absurd refuses
 refuses_show Ranging words g answers line refuses = absurd refuses
-refuses_show Xdp words g answers line refuses = option_more (root_in (names g) (drawn_name words)) (λ same. same) (λ u none. absurd none) refuses
+refuses_show Xdp words g answers line refuses = refuses_lined (has_lines g) words g answers line refuses
 refuses_show Compare words g answers line refuses = absurd refuses
 refuses_show Diff words g answers line refuses = absurd refuses
 refuses_show Sim words g answers line refuses = absurd refuses

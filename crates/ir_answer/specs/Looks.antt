@@ -18,6 +18,7 @@ use Rattle.ir_exports.specs.OrderText.{order_text}
 use Rattle.ir_exports.specs.PrefixesText.{IsPrefixesOf}
 use Rattle.ir_exports.specs.RangesText.{ranges_text}
 use Rattle.ir_exports.specs.LinesText.{AreLinesBytes, IsLinesText}
+use Rattle.ir_exports.specs.declared.TheConstants.{MAX_LABELS}
 use Rattle.ir_cli.specs.declared.words.Words.{Words}
 use Rattle.ir_cli.specs.declared.words.Second.{Second}
 use Rattle.ir_cli.specs.declared.words.Span.{Span}
@@ -33,9 +34,11 @@ use Rattle.ir_answer.specs.declared.look.Show.TheVariants.{Rows, Nodes, Between,
 use Rattle.ir_script.specs.Order.{IsOrder}
 use Rattle.ir_cli.specs.Answer.{Answer, Ran, Found, Refused, NoThread}
 use Rattle.ir_cli.specs.Lines.{opening_line}
+use Rattle.ir_core.specs.declared.event.OpenError.TheVariants.{TooLarge}
 use Rattle.ir_cli.specs.Openings.{no_root, root_name, root_in, kind_asked, label_order, AnswersTopology, AnswersRoot, AnswersOrder}
 use Rattle.ir_cli.specs.Words.{has_order}
 use Rattle.ir_model.specs.Plan.{Plan}
+use Rattle.ir_model.specs.Topology.{Topology}
 use Rattle.ir_plan.specs.Building.{Labelling, FromRoot, ByList, IsPlanBy}
 use Rattle.ir_answer.specs.Plans.{AnswersText}
 
@@ -67,26 +70,40 @@ abbrev pub AnswersDrawn : Option Name → Bool → Option Name → Option Name �
 AnswersDrawn None is_svg from to g answers = AnswersBothEnds g from to (λ ends. answers (Drawing ends))
 AnswersDrawn (Some node) is_svg from to g answers = AnswersRoot g (Some node) (λ u. answers (Circle u is_svg))
 
--- The answer to a graph where figures beside those of a second plan may be asked for: the refusal of a second plan's root that
--- is no node, or else an answer to what is to be shown. Where the root has no name it is the first node. Landmark plans go
--- round so far.
-abbrev pub AnswersBeside : Detour → Option Second → Adjacency → (Show → Answer → Type 0) → Answer → Type 0
-AnswersBeside detour None g answers = answers Figures
-AnswersBeside detour (Some second) g answers =
-    AnswersRoot g (option_map string_bytes second.root) (λ root. answers (Beside (kind_of second.kind detour) root))
+-- The answer to a graph where there may be a second plan: the refusal of its root that is no node, or else an answer to its
+-- kind and root. Where the root has no name it is the first node. Landmark plans go round so far.
+abbrev pub AnswersSecond : Detour → Option Second → Adjacency → (Option (Kind × ℕ) → Answer → Type 0) → Answer → Type 0
+AnswersSecond detour None g answers = answers None
+AnswersSecond detour (Some second) g answers =
+    AnswersRoot g (option_map string_bytes second.root) (λ root. answers (Some (kind_of second.kind detour, root)))
 
 -- the order in which plans without a link or a node are labelled, if they don't keep the labels of a list
 abbrev pub order_again : Words → Option LabelOrder
 order_again words = if has_order words then None else Some (label_order words.numbering)
 
--- the figures without each link, or without each node by plans of the kind that is asked for of a node less
-abbrev pub each_shown : Words → Adjacency → Show
-each_shown words g = if words.by_node then EachNode (kind_asked words (length g - 1)) (order_again words) else Each (order_again words)
+-- the figures without each link, or without each node by plans of the kind that is asked for of a node less, beside a second
+-- plan if there is one
+abbrev pub each_shown : Words → Adjacency → Option (Kind × ℕ) → Show
+each_shown words g second =
+    if words.by_node then EachNode (kind_asked words (length g - 1)) (order_again words) second else Each (order_again words) second
 
--- The answer to a graph where figures are asked for, those without each link or node or those beside a second plan.
-abbrev pub AnswersFigures : Bool → Words → Adjacency → (Show → Answer → Type 0) → Answer → Type 0
-AnswersFigures true words g answers = answers (each_shown words g)
-AnswersFigures false words g answers = AnswersBeside (detour_of words.detour (length g)) words.second g answers
+-- the figures, beside a second plan if there is one
+abbrev pub figures_alone : Option (Kind × ℕ) → Show
+figures_alone None = Figures
+figures_alone (Some second) = Beside second.0 second.1
+
+-- the figures that the words ask for
+abbrev pub figures_shown : Words → Adjacency → Option (Kind × ℕ) → Show
+figures_shown words g second = if words.each then each_shown words g second else figures_alone second
+
+-- The answer to a graph where figures are asked for, those without each link or node or those of the plan alone.
+abbrev pub AnswersFigures : Words → Adjacency → (Show → Answer → Type 0) → Answer → Type 0
+AnswersFigures words g answers = AnswersSecond (detour_of words.detour (length g)) words.second g (λ second. answers (figures_shown words g second))
+
+-- the second plan over a network, of this kind and numbered depth first from this root, if there is one
+abbrev pub IsSecondOver : Option (Kind × ℕ) → Topology → Option Plan → Type 0
+IsSecondOver None net other = other ≡ None
+IsSecondOver (Some second) net other = (plan : Plan) × IsPlanBy net second.0 (FromRoot DepthFirst second.1) plan × (other ≡ Some plan)
 
 -- the text is that of a plan's figures beside a second plan of this kind, numbered depth first from this root
 abbrev pub IsFiguresBeside : Kind → ℕ → List Name → Plan → List ℕ → Type 0
@@ -103,8 +120,9 @@ Says (Nodes first last) g plan text = text ≡ text_of_span (names g) plan first
 Says (Between a b) g plan text = IsWalkOf (names g) plan a b text
 Says Figures g plan text = AreFiguresOf (names g) plan text
 Says (Beside kind root) g plan text = IsFiguresBeside kind root (names g) plan text
-Says (Each labels) g plan text = AreLinkFailures (names g) plan labels text
-Says (EachNode kind labels) g plan text = AreNodeFailures g plan kind labels text
+Says (Each labels second) g plan text = (other : Option Plan) × IsSecondOver second plan.topology other × AreLinkFailures (names g) plan labels other text
+Says (EachNode kind labels second) g plan text =
+    (other : Option Plan) × IsSecondOver second plan.topology other × AreNodeFailures g plan kind labels other text
 Says (Drawing ends) g plan text = IsDrawingOf (names g) plan ends text
 Says (Circle u is_svg) g plan text = text ≡ circle_text is_svg (names g) plan u
 Says (Tables is_disjoint) g plan text = IsPrefixesOf is_disjoint (names g) plan text
@@ -127,26 +145,26 @@ AreAmong n (Nodes first last) = (first ≤ last) × (last < n)
 AreAmong n (Between a b) = (a < n) × (b < n)
 AreAmong n Figures = Unit {0}
 AreAmong n (Beside kind root) = root < n
-AreAmong n (Each labels) = Unit {0}
-AreAmong n (EachNode kind labels) = Unit {0}
+AreAmong n (Each labels second) = IfSome second (λ s. s.1 < n)
+AreAmong n (EachNode kind labels second) = IfSome second (λ s. s.1 < n)
 AreAmong n (Drawing ends) = IfSome ends (λ e. (e.0 < n) × (e.1 < n))
 AreAmong n (Circle u is_svg) = u < n
 AreAmong n (Tables is_disjoint) = Unit {0}
 AreAmong n Ranges = Unit {0}
-AreAmong n (Lines u epoch) = u < n
-AreAmong n (Bytes u epoch) = u < n
+AreAmong n (Lines u epoch) = (u < n) × (n ≤ MAX_LABELS)
+AreAmong n (Bytes u epoch) = (u < n) × (n ≤ MAX_LABELS)
 AreAmong n Order = Unit {0}
 
 -- what is shown is made whole, as a text
 abbrev pub IsText : Show → Type 0
 IsText Rows = ⊥
 IsText (Bytes u epoch) = ⊥
-IsText (EachNode kind labels) = ⊥
+IsText (EachNode kind labels second) = ⊥
 IsText show = Unit {0}
 
 -- what is shown is of one graph, and not also of the graphs without each node
 abbrev pub IsOfOneGraph : Show → Type 0
-IsOfOneGraph (EachNode kind labels) = ⊥
+IsOfOneGraph (EachNode kind labels second) = ⊥
 IsOfOneGraph show = Unit {0}
 
 -- the answer to a graph, a kind and labels, by what is shown
@@ -172,6 +190,15 @@ AnswersPlanned false (Some span) g answers = AnswersWithin (are_nodes span g) sp
 abbrev pub lines_shown : Words → ℕ → Show
 lines_shown words u = if words.binary then Bytes u words.epoch else Lines u words.epoch
 
+-- the labels of a network are few enough for a table in lines
+abbrev pub has_lines : Adjacency → Bool
+has_lines g = nat_le (length g) MAX_LABELS
+
+-- The answer to a graph where lines are asked for: a refusal where its labels are too many for a table, and of a node that is none.
+abbrev pub AnswersLined : Bool → Words → Adjacency → (Show → Answer → Type 0) → Answer → Type 0
+AnswersLined true words g answers = AnswersRoot g (drawn_name words) (λ u. answers (lines_shown words u))
+AnswersLined false words g answers = λ answer. answer ≡ Refused (opening_line TooLarge)
+
 -- the subcommands that show a plan
 abbrev pub ShowsPlan : Sub → Type 0
 ShowsPlan Compare = ⊥
@@ -186,11 +213,11 @@ ShowsPlan sub = Unit {0}
 abbrev pub AnswersAsked : Sub → Words → Adjacency → (Show → Answer → Type 0) → Answer → Type 0
 AnswersAsked Planning words g answers = AnswersPlanned words.order_alone words.nodes g answers
 AnswersAsked Walk words g answers = AnswersEnds g (from_name words) (to_name words) (λ a b. answers (Between a b))
-AnswersAsked Stats words g answers = AnswersFigures words.each words g answers
+AnswersAsked Stats words g answers = AnswersFigures words g answers
 AnswersAsked Draw words g answers = AnswersDrawn (drawn_name words) words.svg (from_name words) (to_name words) g answers
 AnswersAsked Prefixes words g answers = answers (Tables words.disjoint)
 AnswersAsked Ranging words g answers = answers Ranges
-AnswersAsked Xdp words g answers = AnswersRoot g (drawn_name words) (λ u. answers (lines_shown words u))
+AnswersAsked Xdp words g answers = AnswersLined (has_lines g) words g answers
 AnswersAsked Compare words g answers = λ answer. ⊥
 AnswersAsked Diff words g answers = λ answer. ⊥
 AnswersAsked Sim words g answers = λ answer. ⊥
@@ -242,16 +269,16 @@ IsPlanned true span g show = show ≡ Order
 IsPlanned false None g show = show ≡ Rows
 IsPlanned false (Some span) g show = (are_nodes span g ≡ true) × (show ≡ Nodes span.first span.last)
 
--- the figures, beside those of a second plan if there is one
-abbrev pub AreBeside : Detour → Option Second → Adjacency → Show → Type 0
-AreBeside detour None g show = show ≡ Figures
-AreBeside detour (Some second) g show =
-    (root : ℕ) × IsNode g (option_map string_bytes second.root) root × (show ≡ Beside (kind_of second.kind detour) root)
+-- the kind and the root of the second plan that the words ask for, if they do
+abbrev pub IsSecondPlan : Detour → Option Second → Adjacency → Option (Kind × ℕ) → Type 0
+IsSecondPlan detour None g found = found ≡ None
+IsSecondPlan detour (Some second) g found =
+    (root : ℕ) × IsNode g (option_map string_bytes second.root) root × (found ≡ Some (kind_of second.kind detour, root))
 
 -- the figures that the words ask for
-abbrev pub AreShown : Bool → Words → Adjacency → Show → Type 0
-AreShown true words g show = show ≡ each_shown words g
-AreShown false words g show = AreBeside (detour_of words.detour (length g)) words.second g show
+abbrev pub AreShown : Words → Adjacency → Show → Type 0
+AreShown words g show =
+    (second : Option (Kind × ℕ)) × IsSecondPlan (detour_of words.detour (length g)) words.second g second × (show ≡ figures_shown words g second)
 
 -- the drawing of the network, with the ends where both are named
 abbrev pub IsNetwork : Option Name → Option Name → Adjacency → Show → Type 0
@@ -268,15 +295,19 @@ IsOneDrawn (Some node) is_svg from to g show = (u : ℕ) × IsNode g (Some node)
 abbrev pub IsDrawn : Words → Adjacency → Show → Type 0
 IsDrawn words g show = IsOneDrawn (drawn_name words) words.svg (from_name words) (to_name words) g show
 
+-- the lines of the node that the words name, of a network that has few enough labels
+abbrev pub AreLined : Words → Adjacency → Show → Type 0
+AreLined words g show = (has_lines g ≡ true) × ((u : ℕ) × IsNode g (drawn_name words) u × (show ≡ lines_shown words u))
+
 -- what the words ask to be shown
 abbrev pub IsShow : Sub → Words → Adjacency → Show → Type 0
 IsShow Planning words g show = IsPlanned words.order_alone words.nodes g show
 IsShow Walk words g show = (a b : ℕ) × IsNode g (from_name words) a × IsNode g (to_name words) b × (show ≡ Between a b)
-IsShow Stats words g show = AreShown words.each words g show
+IsShow Stats words g show = AreShown words g show
 IsShow Draw words g show = IsDrawn words g show
 IsShow Prefixes words g show = show ≡ Tables words.disjoint
 IsShow Ranging words g show = show ≡ Ranges
-IsShow Xdp words g show = (u : ℕ) × IsNode g (drawn_name words) u × (show ≡ lines_shown words u)
+IsShow Xdp words g show = AreLined words g show
 IsShow Compare words g show = ⊥
 IsShow Diff words g show = ⊥
 IsShow Sim words g show = ⊥
@@ -293,11 +324,14 @@ RefusesPlanned order_alone span g line = AnswersPlanned order_alone span g (λ s
 abbrev pub RefusesEnds : Adjacency → Option Name → Option Name → List ℕ → Type 0
 RefusesEnds g from to line = AnswersEnds g from to (λ a b answer. ⊥) (Refused line)
 
-abbrev pub RefusesFigures : Bool → Words → Adjacency → List ℕ → Type 0
-RefusesFigures each words g line = AnswersFigures each words g (λ show answer. ⊥) (Refused line)
+abbrev pub RefusesSecond : Detour → Option Second → Adjacency → List ℕ → Type 0
+RefusesSecond detour second g line = AnswersSecond detour second g (λ found answer. ⊥) (Refused line)
 
 abbrev pub RefusesDrawn : Words → Adjacency → List ℕ → Type 0
 RefusesDrawn words g line = AnswersDrawn (drawn_name words) words.svg (from_name words) (to_name words) g (λ show answer. ⊥) (Refused line)
+
+abbrev pub RefusesLined : Bool → Words → Adjacency → List ℕ → Type 0
+RefusesLined few words g line = AnswersLined few words g (λ show answer. ⊥) (Refused line)
 
 abbrev pub RefusesShow : Sub → Words → Adjacency → List ℕ → Type 0
 RefusesShow sub words g line = AnswersAsked sub words g (λ show answer. ⊥) (Refused line)

@@ -2,7 +2,7 @@
 ghost use Rattle.std.specs.Prelude.{◌≡◌, ◌≢◌, ◌<◌, ◌≤◌, ℕ, true, IfOk, IfErr, IfNone, IfSome, IsSome, length, string_bytes};
 ghost use Rattle.ir_model.specs.{Graph.names, Topology.node_count};
 ghost use Rattle.ir_answer.specs.Asked.{look_sources};
-ghost use Rattle.ir_answer.specs.Looks.{from_name, to_name, circle_text, AnswersShow, AreAmong, AreTexts, Says, AnswerShows, order_in, IsNode, IsLabelling, AreShown, IsDrawn, IsShow, IsText, IsOfOneGraph, lines_shown, each_shown, order_again, RefusesLabels, RefusesEnds, RefusesFigures, RefusesDrawn, RefusesShow, ShowsPlan, LookAnswers, IsFiguresBeside, IsPlanned, RefusesPlanned};
+ghost use Rattle.ir_answer.specs.Looks.{from_name, to_name, circle_text, AnswersShow, AreAmong, AreTexts, Says, AnswerShows, order_in, IsNode, IsLabelling, AreShown, IsDrawn, IsShow, IsText, IsOfOneGraph, lines_shown, each_shown, order_again, RefusesLabels, RefusesEnds, RefusesDrawn, RefusesLined, RefusesShow, AreLined, has_lines, ShowsPlan, LookAnswers, IsFiguresBeside, IsPlanned, RefusesPlanned, IsSecondPlan, IsSecondOver, figures_shown, RefusesSecond};
 ghost use Rattle.ir_answer.specs.Stops.{StopsAs, Gives};
 ghost use Rattle.ir_answer.specs.Failing.{IsRead};
 ghost use Rattle.ir_cli.specs.Answer.{Refused};
@@ -17,9 +17,10 @@ use crate::failing::node_failures;
 use ir_cli::{Format, Notice, RunReply, Sub, Words, kind_asked, label_order, no_root};
 use ir_core::OpenError;
 use ir_exports::{
-    circle_dot, circle_svg, lines_bytes, lines_text, order_text, prefixes_text_by, ranges_text,
+    MAX_LABELS, circle_dot, circle_svg, lines_bytes, lines_text, order_text, prefixes_text_by,
+    ranges_text,
 };
-use ir_figures::{figures_text, figures_text_beside, link_failures_text};
+use ir_figures::{Beside, figures_text, figures_text_beside, link_failures_text};
 use ir_graph::Graph;
 use ir_model::Kind;
 use ir_plan::{Crew, LabelOrder, Labels, Plan, PlanError, is_of_shortest_ways};
@@ -42,10 +43,12 @@ pub enum Show {
     /// of this kind and numbered depth first from this node.
     Beside(Kind, u16),
     /// The figures, and those without each link: of plans labelled in this order, or where there is none with the labels
-    /// of the plan of the whole network.
-    Each(Option<LabelOrder>),
-    /// The figures, and those without each node: of plans of this kind, labelled in the same way.
-    EachNode(Kind, Option<LabelOrder>),
+    /// of the plan of the whole network. Each beside a second plan over the whole network, if there is one, of this kind
+    /// and numbered depth first from this node.
+    Each(Option<LabelOrder>, Option<(Kind, u16)>),
+    /// The figures, and those without each node: of plans of this kind, labelled and beside a second plan in the same
+    /// way.
+    EachNode(Kind, Option<LabelOrder>, Option<(Kind, u16)>),
     /// A drawing, with the walk between two nodes in bold if there are any.
     Drawing(Option<(u16, u16)>),
     /// The circle of labels with the intervals of a node: as SVG, or for Graphviz.
@@ -105,6 +108,41 @@ fn beside_text(
     figures_text_beside(alloc, graph, plan, &second)
 }
 
+/// The second plan over the network of another one, if there is one, with what waits for what by it. Memory alone
+/// refuses it.
+fn plan_beside(
+    crew: &impl Crew,
+    alloc: Global,
+    plan: &Plan,
+    second: Option<(Kind, u16)>,
+) -> Result<Option<Beside>, AllocError>
+    requires { IfSome second (λ s. s.1 < node_count plan.now.topology) }
+    ensures { IfOk result (IsSecondOver second plan.now.topology) }
+{
+    let Some(second) = second else {
+        return Ok(None);
+    };
+    let other = second_plan(crew, alloc, plan, second)?;
+    Ok(Some(Beside::of(alloc, other)?))
+}
+
+/// The figures of a plan, and of those without each link.
+fn links_text(
+    crew: &impl Crew,
+    alloc: Global,
+    graph: &Graph,
+    plan: &Plan,
+    order: Option<LabelOrder>,
+    second: Option<(Kind, u16)>,
+) -> Result<String, AllocError>
+    requires nodes { node_count plan.now.topology ≡ length graph.now }
+    requires root { IfSome second (λ s. s.1 < length graph.now) }
+    ensures { IfOk result (λ text. Says (Show.Each order second) graph.now plan.now (string_bytes text)) }
+{
+    let other = plan_beside(crew, alloc, plan, second)?;
+    link_failures_text(crew, alloc, graph, plan, order, &other)
+}
+
 /// The circle of labels with the intervals of a node: as SVG, or for Graphviz.
 fn circle_text(
     alloc: Global,
@@ -138,12 +176,12 @@ fn text_of(
     ensures { IfOk result (λ text. Says show graph.now plan.now (string_bytes text)) }
 {
     match show {
-        Show::Rows | Show::Bytes(_, _) | Show::EachNode(_, _) => unreachable!(),
+        Show::Rows | Show::Bytes(_, _) | Show::EachNode(_, _, _) => unreachable!(),
         Show::Nodes(first, last) => span_text(alloc, graph, plan, (first, last)),
         Show::Between(from, to) => walk_text(alloc, graph, plan, from, to),
         Show::Figures => figures_text(alloc, graph, plan),
         Show::Beside(kind, root) => beside_text(crew, alloc, graph, plan, (kind, root)),
-        Show::Each(order) => link_failures_text(crew, alloc, graph, plan, order),
+        Show::Each(order, second) => links_text(crew, alloc, graph, plan, order, second),
         Show::Drawing(ends) => draw_text(alloc, graph, plan, ends),
         Show::Circle(node, is_svg) => circle_text(alloc, graph, plan, node, is_svg),
         Show::Tables(is_disjoint) => prefixes_text_by(crew, alloc, graph, plan, is_disjoint),
@@ -245,8 +283,8 @@ fn read_ends(words: &Words, graph: &Graph) -> Result<(u16, u16), AnswerStop>
     Ok((from, to))
 }
 
-/// In what order the plans without a link or a node are labelled: in that of the words, or where these have a list in none, which
-/// keeps the labels.
+/// In what order the plans without a link or a node are labelled: in that of the words, or where these have a list in
+/// none, which keeps the labels.
 fn order_again(words: &Words) -> Option<LabelOrder>
     ensures { result ≡ order_again words.now }
 {
@@ -257,35 +295,57 @@ fn order_again(words: &Words) -> Option<LabelOrder>
     }
 }
 
-/// The figures without each link or each node, as the words ask for.
-fn each_shown(words: &Words, graph: &Graph) -> Show
-    ensures { result ≡ each_shown words.now graph.now }
+/// The figures without each link or each node, as the words ask for, beside a second plan if there is one.
+fn each_shown(words: &Words, graph: &Graph, second: Option<(Kind, u16)>) -> Show
+    ensures { result ≡ each_shown words.now graph.now second }
 {
     graph.invariant();
     let order = order_again(words);
     if words.by_node {
         let left = graph.number_of_nodes().saturating_sub(1);
-        Show::EachNode(kind_asked(words, left), order)
-    } else {
-        Show::Each(order)
+        return Show::EachNode(kind_asked(words, left), order, second);
+    }
+    Show::Each(order, second)
+}
+
+/// The figures that the words ask for, beside a second plan if there is one.
+fn figures_shown(words: &Words, graph: &Graph, second: Option<(Kind, u16)>) -> Show
+    ensures { result ≡ figures_shown words.now graph.now second }
+{
+    if words.each {
+        return each_shown(words, graph, second);
+    }
+    match second {
+        Some((kind, root)) => Show::Beside(kind, root),
+        None => Show::Figures,
     }
 }
 
-/// The figures, those without each link or node, or those beside a second plan, as the words ask for.
-fn read_figures(words: &Words, graph: &Graph) -> Result<Show, AnswerStop>
-    ensures show { IfOk result (λ show. AreShown words.now.each words.now graph.now show) }
-    ensures among { IfOk result (λ show. 0 < length graph.now → AreAmong (length graph.now) show) }
-    ensures stop { IfErr result (λ s. StopsAs s (RefusesFigures words.now.each words.now graph.now)) }
+/// The kind and the root of the second plan that the words ask for, if they do.
+fn read_second(words: &Words, graph: &Graph) -> Result<Option<(Kind, u16)>, AnswerStop>
+    ensures second { IfOk result (IsSecondPlan (detour_of words.now.detour (length graph.now)) words.now.second
+        graph.now) }
+    ensures among { IfOk result (λ second. 0 < length graph.now → IfSome second (λ s. s.1 < length graph.now)) }
+    ensures stop { IfErr result (λ s. StopsAs s
+        (RefusesSecond (detour_of words.now.detour (length graph.now)) words.now.second graph.now)) }
 {
-    if words.each {
-        return Ok(each_shown(words, graph));
-    }
     let Some(second) = &words.second else {
-        return Ok(Show::Figures);
+        return Ok(None);
     };
     let root = read_node(graph, &second.root)?;
     let detour = words.detour.detour(graph.number_of_nodes());
-    Ok(Show::Beside(second.kind.kind(detour), root))
+    Ok(Some((second.kind.kind(detour), root)))
+}
+
+/// What figures are to be shown.
+fn read_figures(words: &Words, graph: &Graph) -> Result<Show, AnswerStop>
+    ensures show { IfOk result (λ show. AreShown words.now graph.now show) }
+    ensures among { IfOk result (λ show. 0 < length graph.now → AreAmong (length graph.now) show) }
+    ensures stop { IfErr result (λ s. StopsAs s
+        (RefusesSecond (detour_of words.now.detour (length graph.now)) words.now.second graph.now)) }
+{
+    let second = read_second(words, graph)?;
+    Ok(figures_shown(words, graph, second))
 }
 
 /// What is to be drawn: the circle of the node that the words name, or else the network, with ends only where both are
@@ -335,6 +395,19 @@ fn lines_shown(words: &Words, node: u16) -> Show
     }
 }
 
+/// The lines of the row of the node that the words name, where the labels are few enough for them.
+fn read_lines(words: &Words, graph: &Graph) -> Result<Show, AnswerStop>
+    ensures show { IfOk result (λ show. AreLined words.now graph.now show) }
+    ensures among { IfOk result (λ show. 0 < length graph.now → AreAmong (length graph.now) show) }
+    ensures stop { IfErr result (λ s. StopsAs s (RefusesLined (has_lines graph.now) words.now graph.now)) }
+{
+    if graph.number_of_nodes() > MAX_LABELS {
+        return Err(AnswerStop::Refused(Notice::Opening(OpenError::TooLarge)));
+    }
+    let node = read_node(graph, &words.node)?;
+    Ok(lines_shown(words, node))
+}
+
 /// What of a plan is to be shown, with the nodes that the words name.
 fn read_show(sub: Sub, words: &Words, graph: &Graph) -> Result<Show, AnswerStop>
     requires { ShowsPlan sub }
@@ -348,10 +421,7 @@ fn read_show(sub: Sub, words: &Words, graph: &Graph) -> Result<Show, AnswerStop>
         Sub::Stats => read_figures(words, graph),
         Sub::Prefixes => Ok(Show::Tables(words.disjoint)),
         Sub::Ranges => Ok(Show::Ranges),
-        Sub::Xdp => {
-            let node = read_node(graph, &words.node)?;
-            Ok(lines_shown(words, node))
-        }
+        Sub::Xdp => read_lines(words, graph),
         Sub::Walk => {
             let (from, to) = read_ends(words, graph)?;
             Ok(Show::Between(from, to))
@@ -415,7 +485,7 @@ fn span_alone(show: Show, kind: Kind, nodes: usize, labels: &Labels) -> Option<(
     Some((first, last))
 }
 
-/// The answer that shows the rows of some nodes of a plan, or tells what refuses that plan, which is not built.
+/// The answer that shows the rows of some nodes of a plan, or what refuses that plan, which is not built.
 fn show_nodes(
     alloc: Global,
     graph: &Graph,
@@ -478,8 +548,8 @@ fn show_rows(
     }
 }
 
-/// The answer that shows something other than all rows of a plan, or tells what refuses it. A walk and the rows of some
-/// nodes are told without their plan where that need not be built.
+/// The answer that shows something other than all rows of a plan, or what refuses it. A walk and the rows of some
+/// nodes are shown without their plan where that need not be built.
 fn show_text(
     crew: &impl Crew,
     alloc: Global,
@@ -530,15 +600,39 @@ fn show_plan(
     }
 }
 
-/// The figures without each node, if they are what is shown: of plans of which kind, labelled in which order.
-fn node_failures_in(show: Show) -> Option<(Kind, Option<LabelOrder>)>
-    ensures some { IfSome result (λ asked. show ≡ Show.EachNode asked.0 asked.1) }
+/// What figures without each node are asked for: of plans of which kind, labelled in which order, and beside which second
+/// plan.
+type NodesAsked = (Kind, Option<LabelOrder>, Option<(Kind, u16)>);
+
+/// The figures without each node, if they are what is shown.
+fn node_failures_in(show: Show) -> Option<NodesAsked>
+    ensures some { IfSome result (λ asked. show ≡ Show.EachNode asked.0 asked.1 asked.2) }
     ensures none { IfNone result (IsOfOneGraph show) }
 {
     match show {
-        Show::EachNode(kind, order) => Some((kind, order)),
+        Show::EachNode(kind, order, second) => Some((kind, order, second)),
         _ => None,
     }
+}
+
+/// The text of the figures of a plan, and of those without each node.
+fn nodes_text(
+    crew: &impl Crew,
+    alloc: Global,
+    read: (Format, &[u8]),
+    graph: &Graph,
+    plan: &Plan,
+    asked: NodesAsked,
+) -> Result<String, AllocError>
+    requires read { IsRead read.0 read.1.now graph.now }
+    requires over { plan.now.topology ≡ topology_of_graph graph.now }
+    requires root { IfSome asked.2 (λ s. s.1 < node_count plan.now.topology) }
+    ensures { IfOk result (λ text. Says (Show.EachNode asked.0 asked.1 asked.2) graph.now plan.now
+        (string_bytes text)) }
+{
+    let (kind, order, second) = asked;
+    let other = plan_beside(crew, alloc, plan, second)?;
+    node_failures(crew, alloc, read, graph, plan, kind, order, &other)
 }
 
 /// The answer that gives the figures of a plan and those without each node, or what refuses the plan. The text is that
@@ -546,36 +640,30 @@ fn node_failures_in(show: Show) -> Option<(Kind, Option<LabelOrder>)>
 fn show_node_failures(
     crew: &impl Crew,
     alloc: Global,
-    format: Format,
-    text: &[u8],
+    read: (Format, &[u8]),
     kind: Kind,
     graph: &Graph,
     labels: Labels,
-    left: (Kind, Option<LabelOrder>),
+    asked: NodesAsked,
 ) -> Result<RunReply, AnswerStop>
     requires labels { MayLabel (topology_of_graph graph.now) kind (labelling_of labels) }
-    requires read { IsRead format text.now graph.now }
-    ensures { Gives (AnswersShow kind graph.now (labelling_of labels) (Show.EachNode left.0 left.1)) result }
+    requires root { 0 < length graph.now → IfSome asked.2 (λ s. s.1 < length graph.now) }
+    requires read { IsRead read.0 read.1.now graph.now }
+    ensures { Gives (AnswersShow kind graph.now (labelling_of labels) (Show.EachNode asked.0 asked.1 asked.2)) result }
 {
-    match plan_of(crew, alloc, kind, graph, labels) {
-        Ok(plan) => {
-            let (left, order) = left;
-            let Ok(told) = node_failures(crew, alloc, format, text, graph, &plan, left, order)
-            else {
-                return Err(AnswerStop::NoMemory);
-            };
-            Ok(RunReply::Ran(told, Vec::new(alloc)))
-        }
-        Err(stop) => Err(stop),
-    }
+    let plan = plan_of(crew, alloc, kind, graph, labels)?;
+    plan.invariant();
+    let Ok(text) = nodes_text(crew, alloc, read, graph, &plan, asked) else {
+        return Err(AnswerStop::NoMemory);
+    };
+    Ok(RunReply::Ran(text, Vec::new(alloc)))
 }
 
 /// The answer that shows a plan over the network of a graph that was read from a text, or says what refuses it.
 fn show_read(
     crew: &impl Crew,
     alloc: Global,
-    format: Format,
-    text: &[u8],
+    read: (Format, &[u8]),
     kind: Kind,
     graph: Graph,
     labels: Labels,
@@ -583,11 +671,11 @@ fn show_read(
 ) -> Result<RunReply, AnswerStop>
     requires labels { MayLabel (topology_of_graph graph) kind (labelling_of labels) }
     requires ends { 0 < length graph → AreAmong (length graph) show }
-    requires read { IsRead format text.now graph }
+    requires read { IsRead read.0 read.1.now graph }
     ensures { Gives (AnswersShow kind graph (labelling_of labels) show) result }
 {
     match node_failures_in(show) {
-        Some(left) => show_node_failures(crew, alloc, format, text, kind, &graph, labels, left),
+        Some(asked) => show_node_failures(crew, alloc, read, kind, &graph, labels, asked),
         None => show_plan(crew, alloc, kind, graph, labels, show),
     }
 }
@@ -620,8 +708,8 @@ pub fn look_at(
     let kind = kind_over(words, &graph);
     match read_show(sub, words, &graph) {
         Ok(show) => {
-            let format = words.format;
-            show_read(crew, alloc, format, topology, kind, graph, labels, show)
+            let read = (words.format, topology);
+            show_read(crew, alloc, read, kind, graph, labels, show)
         }
         Err(stop) => Err(stop),
     }

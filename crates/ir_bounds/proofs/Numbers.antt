@@ -15,12 +15,12 @@ use Rattle.ir_model.proofs.Landmarks.{first_landmark, distance_nodes}
 use Rattle.ir_tables.specs.FromNode.{AreFrom}
 use Rattle.ir_bounds.specs.Bounds.{held_lists, AreOwnersBy, IsNearer, AreKeptNearer}
 
--- a distance is at most 2 ^ 30
-pub distance_small : (net : Topology) → IsTopology net → (u d n : ℕ) → IsDistance net u d n → n ≤ 1073741824
+-- a distance is below 2 ^ 31
+pub distance_small : (net : Topology) → IsTopology net → (u d n : ℕ) → IsDistance net u d n → n ≤ 2147483647
 distance_small net ok u d n is =
     let way = distance_way net u d n is in
     let short : length (u ∷ way.0) ≤ node_count net = lightest_short net ok u d way.0 way.1 (distance_lightest net u d n way.0 is way.2) in
-    let few : node_count net ≤ 16384 = ok.few_nodes in
+    let few : node_count net ≤ 32768 = ok.few_nodes in
     let light = way_light net ok u d way.0 way.1 in
     omega (arith, short, few, light, way.2)
 
@@ -62,7 +62,7 @@ lists_length made = length-map made (λ (w : Vec ℕ). w.items)
 
 module _ (net : Topology) (ok : IsTopology net) where
   -- the owner of a node is a node, and both distances are small
-  pub owner_in : (landmarks : List ℕ) (d l r : ℕ) → IsLandmarkOf net landmarks d l r → (l < node_count net) × (r ≤ 1073741824)
+  pub owner_in : (landmarks : List ℕ) (d l r : ℕ) → IsLandmarkOf net landmarks d l r → (l < node_count net) × (r ≤ 2147483647)
   owner_in landmarks d l r of = ((distance_nodes net ok d l r of.away).1, distance_small net ok d l r of.away)
 
   -- of the first landmark

@@ -149,8 +149,8 @@ fn lies_far(stretch: u16, away: u32, radius: u32) -> bool
 
 // The bound by the distances to a node, from it to its landmark, and to that landmark.
 fn bound(stretch: u16, away: u32, radius: u32, around: u32) -> u32
-    requires around { around ≤ 1073741824 }
-    requires radius { radius ≤ 1073741824 }
+    requires around { around ≤ 2147483647 }
+    requires radius { radius ≤ 2147483647 }
     ensures { result ≡ bound_by stretch away radius around }
 {
     if lies_far(stretch, away, radius) {

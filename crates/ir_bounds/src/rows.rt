@@ -68,7 +68,7 @@ fn marks_within(
     own: &[u32],
     theirs: &[u32],
 ) -> Result<(Vec<bool>, Vec<u16>), AllocError>
-    requires few { length own.now ≤ 16384 }
+    requires few { length own.now ≤ 32768 }
     requires labels { AreLabels (length own.now) numbering.now.order numbering.now.labels }
     requires theirs { length theirs.now ≡ length own.now }
     ensures marks { IfOk result (λ made. AreMarksWithin (length own.now) numbering.now.order weight own.now theirs.now

@@ -14,7 +14,7 @@ use Rattle.ir_cli.specs.declared.words.NumberingChoice.TheVariants.{DepthFirst, 
 use Rattle.ir_cli.specs.declared.words.Second.{Second}
 use Rattle.ir_cli.specs.declared.words.Span.{Span}
 use Rattle.ir_cli.specs.declared.words.Words.{Words}
-use Rattle.ir_cli.specs.Words.{AreTaken, FitsItsKind, alike, are_named, has_its_files, has_order, is_dash, is_file, has_landmark, has_script, is_no_dash, may_go_round, takes_detour, takes_drawing, takes_each, takes_list, takes_nodes, takes_numbering, texts_wanted}
+use Rattle.ir_cli.specs.Words.{AreTaken, FitsItsKind, alike, are_named, has_its_files, has_order, is_dash, is_file, has_landmark, has_script, is_no_dash, may_go_round, takes_detour, takes_drawing, takes_list, takes_nodes, takes_numbering, texts_wanted}
 use Rattle.ir_cli.specs.Meaning.{AreNodes, HasItsNodes, HasItsSecond, HasWhatIsAsked, IsNoKeeping, IsNumbering, IsSecond, IsKindWord, Means, first_kind, keeps, nodes_word, second_kind, numbering_word, second_word}
 use Rattle.ir_cli.specs.CommandLine.{sub_word}
 
@@ -136,12 +136,6 @@ no_second word first (Some second) b is also some = λ e. true≢false (ap is_so
 no_second word first None None is also some = absurd (some refl)
 no_second word first None (Some second) is also some = absurd (is second.kind also.0)
 
-both_seconds : (word : Text) (first : Option Text) (a b : Option Second) → IsSecond word first a → IsSecond word first b → is_some a ≡ is_some b
-both_seconds word first None None is also = refl
-both_seconds word first None (Some second) is also = absurd (is second.kind also.0)
-both_seconds word first (Some second) None is also = absurd (also second.kind is.0)
-both_seconds word first (Some second) (Some other) is also = refl
-
 -- whether a second plan is one of landmarks, by its word
 landmark_by_word : (kind : KindChoice) (word : Text) → IsKindWord kind word → is_landmark kind ≡ bytes_eq word (codes "landmark")
 landmark_by_word Tree word is = ap (λ w. bytes_eq w (codes "landmark")) is
@@ -213,14 +207,8 @@ module _ (name : Text) (rows : List Row) (a b : Words) (is : Means name rows a) 
   same_nodes : takes_nodes a ≡ takes_nodes b
   same_nodes = ap₂ (λ (order some : Bool). not (order && some)) (is.order_alone ∙ sym also.order_alone) same_span
 
-  same_beside : is_some a.second ≡ is_some b.second
-  same_beside = both_seconds (second_word rows) (first_of (codes "root") rows) a.second b.second is.second also.second
-
-  same_each : takes_each a ≡ takes_each b
-  same_each = ap₂ (λ (each some : Bool). not (each && some)) (is.each ∙ sym also.each) same_beside
-
   pub taken_too : AreTaken b → AreTaken a
-  taken_too taken = (same_files ∙ taken.0, same_numbering ∙ taken.1, same_drawing ∙ taken.2, same_detour ∙ taken.3, same_nodes ∙ taken.4, same_each ∙ taken.5)
+  taken_too taken = (same_files ∙ taken.0, same_numbering ∙ taken.1, same_drawing ∙ taken.2, same_detour ∙ taken.3, same_nodes ∙ taken.4)
 
   pub fits_too : FitsItsKind b → FitsItsKind a
   fits_too fits = λ order. ap takes_list kinds ∙ fits (sym same_order ∙ order)

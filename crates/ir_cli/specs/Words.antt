@@ -120,15 +120,10 @@ takes_detour words = not words.detour.is_said || may_go_round words.sub words.ki
 abbrev pub takes_nodes : Words → Bool
 takes_nodes words = not (words.order_alone && is_some words.nodes)
 
--- figures without each link or node are printed beside no second plan
-abbrev pub takes_each : Words → Bool
-takes_each words = not (words.each && is_some words.second)
-
--- the words have the files, the numbering, the drawing, the detour, the nodes and the figures that their subcommand takes
+-- the words have the files, the numbering, the drawing, the detour and the nodes that their subcommand takes
 abbrev pub AreTaken : Words → Type 0
 AreTaken words = (has_its_files words ≡ true) × (takes_numbering words.numbering words.kind (is_some words.root) ≡ true)
     × (takes_drawing words ≡ true) × (takes_detour words ≡ true) × (takes_nodes words ≡ true)
-    × (takes_each words ≡ true)
 
 -- the format of a file, by its name
 abbrev pub format_of_name : Name → Format

@@ -3,7 +3,7 @@
 ghost use Rattle.std.specs.Prelude.{◌≡◌, true, false, MatchOption, map, string_bytes};
 ghost use Rattle.std.specs.List.{list_all, list_any};
 ghost use Rattle.clap.specs.Words.{found_of, rows_of};
-ghost use Rattle.ir_cli.specs.Words.{AreTaken, FitsItsKind, are_named, has_its_files, has_its_numbering, is_no_dash, may_go_round, takes_dash, takes_detour, takes_drawing, takes_each, takes_list, takes_nodes, texts_wanted};
+ghost use Rattle.ir_cli.specs.Words.{AreTaken, FitsItsKind, are_named, has_its_files, has_its_numbering, is_no_dash, may_go_round, takes_dash, takes_detour, takes_drawing, takes_list, takes_nodes, texts_wanted};
 ghost use Rattle.ir_cli.specs.Meaning.{HasItsNodes, HasItsSecond, HasWhatIsAsked};
 
 use crate::help::{Called, texts_of, usage_of};
@@ -152,17 +152,6 @@ fn nodes_fault(words: &Words) -> Option<&'static str>
     }
 }
 
-/// What is wrong with the figures that are printed, if anything is.
-fn each_fault(words: &Words) -> Option<&'static str>
-    ensures { MatchOption result (takes_each words.now ≡ true) (λ _. takes_each words.now ≡ false) }
-{
-    if words.each && words.second.is_some() {
-        Some("'--each' cannot be used with '--with'")
-    } else {
-        None
-    }
-}
-
 /// Which files a subcommand of several texts takes.
 fn files_wanted(called: Called, sub: Sub) -> &'static str {
     let texts = texts_of(called);
@@ -192,9 +181,6 @@ pub fn fault_of(called: Called, words: &Words) -> Option<&'static str>
         return Some(fault);
     }
     if let Some(fault) = nodes_fault(words) {
-        return Some(fault);
-    }
-    if let Some(fault) = each_fault(words) {
         return Some(fault);
     }
     if words.has_order() {

@@ -120,8 +120,7 @@ pub struct Words {
     pub svg: bool,
     /// The plan beside the first, for `stats`; its root is by default that of the first.
     pub second: Option<Second>,
-    /// Whether the figures without each link or node are printed in place of those of the plan alone, never beside a second
-    /// plan, for `stats`.
+    /// Whether the figures without each link or node are printed in place of those of the plan alone, for `stats`.
     pub each: bool,
     /// Whether nodes fail in place of links, with `each`.
     pub by_node: bool,
@@ -397,7 +396,6 @@ fn all_words<'a>(
 /// - a detour where no landmark plan is made;
 /// - a second plan of no kind;
 /// - nodes that are no two numbers, the second at least the first, or beside an order of labels;
-/// - figures without each link, beside a second plan;
 /// - a drawn walk with one end, a node beside a walk, and SVG without a node.
 pub fn read_words_as(alloc: Global, called: Called, words: &[String]) -> Result<Words, WordsError>
     ensures kind { IfOk result (λ words. FitsItsKind words) }

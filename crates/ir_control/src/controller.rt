@@ -90,7 +90,7 @@ impl<R: Wait + Drop> Controller<R> {
 
     /// Marks a link as down. Refused are, in this order: a number that is no link, a link that is down, a change too
     /// many, want of memory.
-    pub fn down(&mut self, link: u16) -> Result<Receipt, Refused>
+    pub fn down(&mut self, link: u32) -> Result<Receipt, Refused>
         ensures answer { IsChangeAnswer (marking_refused self.old link false) (Down link) self.old self.new result }
         ensures number { IfErr result (λ e. 0 < change_number e) }
     {
@@ -102,7 +102,7 @@ impl<R: Wait + Drop> Controller<R> {
 
     /// Marks a link as up. Refused are, in this order: a number that is no link, a link that is up, a change too many,
     /// want of memory.
-    pub fn up(&mut self, link: u16) -> Result<Receipt, Refused>
+    pub fn up(&mut self, link: u32) -> Result<Receipt, Refused>
         ensures answer { IsChangeAnswer (marking_refused self.old link true) (Up link) self.old self.new result }
         ensures number { IfErr result (λ e. 0 < change_number e) }
     {
@@ -114,7 +114,7 @@ impl<R: Wait + Drop> Controller<R> {
 
     /// Leaves a link out of later installs; it still carries packets. Refused are, in this order: a number that is no
     /// link, a link that is down (`LinkDown`), one that is avoided (`Same`), a change too many, want of memory.
-    pub fn avoid(&mut self, link: u16) -> Result<Receipt, Refused>
+    pub fn avoid(&mut self, link: u32) -> Result<Receipt, Refused>
         ensures answer { IsChangeAnswer (heeding_refused self.old link false) (Avoid link) self.old self.new result }
         ensures number { IfErr result (λ e. 0 < change_number e) }
     {
@@ -126,7 +126,7 @@ impl<R: Wait + Drop> Controller<R> {
 
     /// Lets later installs use a link again. Refused are, in this order: a number that is no link, a link that is not
     /// avoided (`Same`), a change too many, want of memory.
-    pub fn heed(&mut self, link: u16) -> Result<Receipt, Refused>
+    pub fn heed(&mut self, link: u32) -> Result<Receipt, Refused>
         ensures answer { IsChangeAnswer (heeding_refused self.old link true) (Heed link) self.old self.new result }
         ensures number { IfErr result (λ e. 0 < change_number e) }
     {
@@ -137,7 +137,7 @@ impl<R: Wait + Drop> Controller<R> {
     }
 
     // Why installs do not heed a link, or do not avoid it.
-    fn heed_refusal(&self, link: u16, heed: bool) -> Option<Refused>
+    fn heed_refusal(&self, link: u32, heed: bool) -> Option<Refused>
         ensures refusal { result ≡ heeding_refused self.now link heed }
         ensures number { IfSome result (λ e. 0 < change_number e) }
     {
@@ -148,7 +148,7 @@ impl<R: Wait + Drop> Controller<R> {
     }
 
     // Why a link is not marked.
-    fn mark_refusal(&self, link: u16, up: bool) -> Option<Refused>
+    fn mark_refusal(&self, link: u32, up: bool) -> Option<Refused>
         ensures refusal { result ≡ marking_refused self.now link up }
         ensures number { IfSome result (λ e. 0 < change_number e) }
     {

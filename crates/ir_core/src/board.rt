@@ -57,14 +57,14 @@ impl Board {
     }
 
     /// Whether a link is up; true where the number is no link.
-    pub fn is_up(&self, link: u16) -> bool
+    pub fn is_up(&self, link: u32) -> bool
         ensures { result ≡ is_link_up self.now link }
     {
         self.up.is_up(link as usize)
     }
 
     /// Whether installs heed a link; true where the number is no link.
-    pub fn is_heeded(&self, link: u16) -> bool
+    pub fn is_heeded(&self, link: u32) -> bool
         ensures { result ≡ is_heeded self.now link }
     {
         self.heeded.is_up(link as usize)
@@ -90,7 +90,7 @@ impl Board {
     }
 
     /// The next board, with one link marked up or down.
-    pub fn marked(&self, link: u16, up: bool) -> Board
+    pub fn marked(&self, link: u32, up: bool) -> Board
         requires link_in { link < MAX_LINKS }
         requires room { self.now.version < MAX_CHANGES }
         ensures { result ≡ marked self.now link up }
@@ -102,7 +102,7 @@ impl Board {
     }
 
     /// The next board, whose installs heed one link or avoid it. Packets may go by it all the same.
-    pub fn heeding(&self, link: u16, heed: bool) -> Board
+    pub fn heeding(&self, link: u32, heed: bool) -> Board
         requires link_in { link < MAX_LINKS }
         requires room { self.now.version < MAX_CHANGES }
         ensures { result ≡ heeding self.now link heed }
@@ -151,7 +151,7 @@ impl Board {
 
     /// Why a mark of one of so many links is refused: the number is no link, the link is marked so already (`Same`), or
     /// the change is one too many, in this order.
-    pub fn mark_refusal(&self, links: usize, link: u16, up: bool) -> Option<Refused>
+    pub fn mark_refusal(&self, links: usize, link: u32, up: bool) -> Option<Refused>
         ensures { result ≡ mark_refused links self.now link up }
     {
         if link as usize >= links {
@@ -166,7 +166,7 @@ impl Board {
     /// Why installs do not heed one of so many links, or do not avoid it: the number is no link, one to
     /// avoid is down (`LinkDown`), the link is heeded or avoided already (`Same`), or the change is
     /// one too many, in this order.
-    pub fn heed_refusal(&self, links: usize, link: u16, heed: bool) -> Option<Refused>
+    pub fn heed_refusal(&self, links: usize, link: u32, heed: bool) -> Option<Refused>
         ensures { result ≡ heed_refused links self.now link heed }
     {
         if link as usize >= links {

@@ -13,13 +13,13 @@ pub enum Command {
     /// Retires the epochs below this one.
     Retire(u32),
     /// Marks a link as down.
-    Down(u16),
+    Down(u32),
     /// Marks a link as up.
-    Up(u16),
+    Up(u32),
     /// Leaves a link out of later installs; it still carries packets.
-    Avoid(u16),
+    Avoid(u32),
     /// Lets later installs use a link again.
-    Heed(u16),
+    Heed(u32),
     /// Looks until all packets are settled or a node has ended. It is never refused.
     Drain,
 }

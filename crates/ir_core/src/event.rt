@@ -11,7 +11,7 @@ use thiserror::Error;
 #[derive(Clone, Copy, Debug, PartialEq, Eq)]
 pub enum Way {
     Inbox,
-    Link(u16),
+    Link(u32),
 }
 
 /// One atomic step of one actor: the injector, a node or the controller.
@@ -34,13 +34,13 @@ pub enum Event {
     /// The epochs below this one are retired.
     Retire(u32),
     /// A link goes down.
-    Down(u16),
+    Down(u32),
     /// A link comes up.
-    Up(u16),
+    Up(u32),
     /// Later installs leave a link out, which still carries packets.
-    Avoid(u16),
+    Avoid(u32),
     /// Later installs use a link again.
-    Heed(u16),
+    Heed(u32),
 }
 
 /// One step of a run.
@@ -221,20 +221,20 @@ pub enum Action {
     Restamp,
     DropRetired,
     /// Drops it since this link is down.
-    DropDown(u16),
+    DropDown(u32),
 }
 
 /// What comes of a packet when a node acts on it.
 #[derive(Clone, Copy, Debug, PartialEq, Eq)]
 pub enum Verdict {
     /// The link that it came by is down.
-    CameByDown(u16),
+    CameByDown(u32),
     /// Its epoch is retired.
     BelowFloor,
     /// It is at its destination.
     Arrives,
     /// The link that it is to leave by is down.
-    LeavesByDown(u16),
+    LeavesByDown(u32),
     /// The channel that it is to leave by is full.
     NoRoom(Hop),
     /// It is sent.

@@ -15,9 +15,9 @@ pub enum Fate {
     /// Dropped since its epoch was retired.
     Retired,
     /// Dropped since this link was down.
-    Down(u16),
+    Down(u32),
     /// Dropped since the channel of this link to this node was full.
-    Full { link: u16, to: u16 },
+    Full { link: u32, to: u16 },
     /// Under way.
     Left,
 }

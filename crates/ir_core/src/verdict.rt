@@ -42,7 +42,7 @@ pub fn judge(plan: &Plan, board: &Board, way: Way, at: u16, stamp: u32, address:
 pub fn decide(
     plan: &Plan,
     board: &Board,
-    came_by: Option<u16>,
+    came_by: Option<u32>,
     at: u16,
     stamp: u32,
     address: u16,

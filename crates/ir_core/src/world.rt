@@ -281,7 +281,7 @@ impl World {
     }
 
     /// The next version of the board has a link up or down.
-    fn mark(&mut self, link: u16, up: bool) -> Result<Reply, Refused>
+    fn mark(&mut self, link: u32, up: bool) -> Result<Reply, Refused>
         ensures { IsAnswerOr (marks self.old.opening (sight_in self.old) link up) self.old self.new result }
     {
         let newest = self.newest();
@@ -295,7 +295,7 @@ impl World {
     }
 
     /// Installs heed a link from the next version of the board on, or avoid it.
-    fn heed(&mut self, link: u16, heed: bool) -> Result<Reply, Refused>
+    fn heed(&mut self, link: u32, heed: bool) -> Result<Reply, Refused>
         ensures { IsAnswerOr (heeds self.old.opening (sight_in self.old) link heed) self.old self.new result }
     {
         let newest = self.newest();

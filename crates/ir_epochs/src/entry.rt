@@ -10,13 +10,13 @@ pub enum Change {
     /// The epochs below this one are retired.
     Retire(u32),
     /// A link goes down.
-    Down(u16),
+    Down(u32),
     /// A link comes up.
-    Up(u16),
+    Up(u32),
     /// Later installs leave a link out.
-    Avoid(u16),
+    Avoid(u32),
     /// Later installs use a link again.
-    Heed(u16),
+    Heed(u32),
 }
 
 /// An entry of a board's list.

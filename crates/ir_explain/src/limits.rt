@@ -13,8 +13,8 @@ ghost use Rattle.ir_explain.specs.declared.TheConstants as sentences;
 /// Limits of texts: of topologies, names and weights, of numbers in scripts and traces, of segments
 /// of a row, and of reading and writing.
 pub fn limits_of_texts()
-    ensures nodes { graphs.MAX_NODES ≡ 16384 }
-    ensures edges { graphs.MAX_EDGES ≡ 65536 }
+    ensures nodes { graphs.MAX_NODES ≡ 32768 }
+    ensures edges { graphs.MAX_EDGES ≡ 131072 }
     ensures name { graphs.MAX_NAME_BYTES ≡ 64 }
     ensures weight { graphs.MAX_WEIGHT ≡ 65535 }
     ensures digits { scripts.MAX_DIGITS ≡ 5 }

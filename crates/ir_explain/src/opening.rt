@@ -5,6 +5,7 @@ use crate::sentence::{Pushed, begin};
 use crate::texts::RunTexts;
 use ir_cli::{Format, Words, root_of};
 use ir_core::{MAX_LINKS, MAX_NODES, OpenError};
+use ir_exports::MAX_LABELS;
 use ir_graph::Graph;
 use std::alloc::{AllocError, Global};
 
@@ -129,9 +130,17 @@ fn push_no_option(text: &mut String, run: &RunTexts<'_>) -> Pushed {
     push_no_node(text, run, name.as_bytes())
 }
 
-/// Says that there are more nodes or links than a run may have.
-fn push_too_large(text: &mut String, graph: &Graph) -> Pushed {
+/// Says that there are more nodes or links than a run may have, or more nodes than a table in lines has labels: that is
+/// of a node that the words name.
+fn push_too_large(text: &mut String, run: &RunTexts<'_>) -> Pushed {
+    let graph = run.graph;
     let nodes = graph.number_of_nodes();
+    if run.words.node.is_some() {
+        return write!(
+            text,
+            "{nodes} nodes; a table in lines has at most {MAX_LABELS} labels"
+        );
+    }
     let (count, what, most) = if nodes > MAX_NODES {
         (nodes, "nodes", MAX_NODES)
     } else {
@@ -152,7 +161,7 @@ pub fn push_opening(text: &mut String, run: &RunTexts<'_>, error: OpenError) -> 
         OpenError::NoNode => push_no_option(text, run),
         OpenError::Empty => text.push_str(empty(run)),
         OpenError::Disconnected => push_disconnected(text, run),
-        OpenError::TooLarge => push_too_large(text, run.graph),
+        OpenError::TooLarge => push_too_large(text, run),
         OpenError::NoMemory => text.push_str("out of memory while opening the topology"),
         OpenError::TooManyReaders => {
             text.push_str("the board has too few places for a reader of each node")

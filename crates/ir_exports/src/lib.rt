@@ -22,3 +22,6 @@ pub use order::order_text;
 pub use ranges::{ranges_of, ranges_text};
 pub use table::table_of;
 pub use texts::{prefixes_text, prefixes_text_by};
+
+/// The most labels of a table in lines.
+pub const MAX_LABELS: usize = 16_384;

@@ -88,7 +88,7 @@ fn push_node(
     requires nodes { node_count plan.now.topology ≡ length graph.now }
     requires node { u < length graph.now }
     ensures count { IfOk result (λ count. count ≡ length (ranges_in plan.now u)) }
-    ensures few { IfOk result (λ count. count ≤ 16384) }
+    ensures few { IfOk result (λ count. count ≤ 32768) }
     ensures text { OnOk result (string_bytes text.new ≡ string_bytes text.old
         ++ ranges_line (names graph.now) plan.now u) }
 {

@@ -1,5 +1,5 @@
 -- The lines of links that fail.
-use Rattle.std.proofs.Common.{◌≡◌, ◌≢◌, ◌∙◌, ℕ, zero, suc, ◌+◌, List, [], ◌∷◌, ◌++◌, Bool, Option, None, Some, Ok, Err, length, map, flat_map, codes, refl, sym, ap, subst, arith, append_assoc}
+use Rattle.std.proofs.Common.{◌≡◌, ◌≢◌, ◌∙◌, ℕ, zero, suc, ◌+◌, ◌≤◌, cond, nat_lt, true, false, List, [], ◌∷◌, ◌++◌, Bool, Option, None, Some, Ok, Err, length, map, flat_map, codes, refl, sym, ap, subst, arith, append_assoc}
 use Rattle.std.specs.Prelude.{if◌then◌else◌, is_ok, slice_index, IfOk, IsSomeAnd, OnOk}
 use Rattle.std.specs.List.{AllZip, range_with_len}
 use Rattle.std.specs.declared.result.Result.{Result}
@@ -9,7 +9,7 @@ use Rattle.std.proofs.lemmas.List.{append-nil, get_or_default}
 use Rattle.ir_model.specs.declared.Kind.{Kind}
 use Rattle.ir_model.specs.declared.Kind.TheVariants.{Tree, Shortest, Compact, Landmark}
 use Rattle.ir_model.specs.declared.Link.{Link}
-use Rattle.ir_model.specs.Topology.{Topology, restrict}
+use Rattle.ir_model.specs.Topology.{Topology, node_count, restrict}
 use Rattle.ir_model.specs.Plan.{Plan, IsPlan}
 use Rattle.ir_model.proofs.Restrict.{node_count-restrict}
 use Rattle.ir_plan.specs.Building.{Labelling, FromRoot, ByList, MayLabel, HasRoot, HasNoRoot}
@@ -19,7 +19,7 @@ use Rattle.ir_trace.specs.Rows.{spaced}
 use Rattle.ir_trace.proofs.WrittenRows.{join_spaced}
 use Rattle.ir_show.specs.Words.{line_text}
 use Rattle.ir_figures.specs.Failures.{all_but, labelling_kept, labelling_left, without_link, AreWordsOf}
-use Rattle.ir_figures.specs.Made.{bytes_made}
+use Rattle.ir_figures.specs.Made.{bytes_made, IsOtherOver, HaveNumbers}
 
 -- ---- words
 
@@ -154,11 +154,38 @@ no_root_twice net (FromRoot order root) has none = omega (arith, has, none)
 no_root_twice net (ByList list) has none = none
 
 -- what the words say of a network, where it, the kind and the labels have other names
-pub words_over : (net left : Topology) (kind other : Kind) (labels same : Labelling) (words : List (List ℕ)) → left ≡ net → other ≡ kind → same ≡ labels → AreWordsOf left other same words
-    → AreWordsOf net kind labels words
-words_over net left kind other labels same words over alike named are =
-    subst (λ (n : Topology). AreWordsOf n kind labels words) over
-    (subst (λ (k : Kind). AreWordsOf left k labels words) alike (subst (λ (x : Labelling). AreWordsOf left other x words) named are))
+pub words_over : (beside : Option Plan) (without : Option ℕ) (net left : Topology) (kind other : Kind) (labels same : Labelling) (words : List (List ℕ)) → left ≡ net → other ≡ kind → same ≡ labels
+    → AreWordsOf left other same beside without words → AreWordsOf net kind labels beside without words
+words_over beside without net left kind other labels same words over alike named are =
+    subst (λ (n : Topology). AreWordsOf n kind labels beside without words) over
+    (subst (λ (k : Kind). AreWordsOf left k labels beside without words) alike (subst (λ (x : Labelling). AreWordsOf left other x beside without words) named are))
+
+-- ---- beside another plan
+
+two_pieces : (old a b : List ℕ) → (old ++ a) ++ b ≡ old ++ (a ++ b)
+two_pieces old a b = simp append_assoc
+
+-- words after words
+pub words_told : (old a b : List ℕ) (words more : List (List ℕ)) → a ≡ old ++ flat_map spaced words → b ≡ a ++ flat_map spaced more → b ≡ old ++ flat_map spaced (words ++ more)
+words_told old a b words more one two =
+    rw (two, one) (two_pieces old (flat_map spaced words) (flat_map spaced more) ∙ ap (λ t. old ++ t) (sym (flat_map-append spaced words more)))
+
+pub one_word : (old a word : List ℕ) → a ≡ old ++ spaced word → a ≡ old ++ flat_map spaced (word ∷ [])
+one_word old a word one = one ∙ ap (λ t. old ++ t) (sym (append-nil (spaced word)))
+
+-- each node has its own number
+pub own_numbers : (other : Option Plan) (net : Topology) (count : ℕ) → IsOtherOver other net → count ≡ node_count net → HaveNumbers other None count
+own_numbers None net count over same = tt
+own_numbers (Some o) net count over same = λ x lt. omega (arith, lt, same, ap node_count over)
+
+next_at_most : (b : Bool) (x : ℕ) → cond b x (x + 1) ≤ x + 1
+next_at_most true x = omega arith
+next_at_most false x = omega arith
+
+-- without a node the others have numbers
+pub other_numbers : (other : Option Plan) (net : Topology) (k count : ℕ) → IsOtherOver other net → count + 1 ≡ node_count net → HaveNumbers other (Some k) count
+other_numbers None net k count over less = tt
+other_numbers (Some o) net k count over less = λ x lt. omega (arith, next_at_most (nat_lt x k) x, lt, less, ap node_count over)
 
 -- ---- what is written last
 

@@ -35,7 +35,7 @@ nothing_far s = record { light = omega arith; far = λ distance are. refl }
 
 -- with the distances to one more node
 pub one_farther : (s : Plan) (d sum more : ℕ) (weights : List ℕ) → d < node_count s.topology → IsFarSum s d sum → AreDistancesTo s.topology d weights
-    → more ≡ sum_to (length weights) (at weights) d → more ≤ 70368744177664 → IsFarSum s (d + 1) (sum + more)
+    → more ≡ sum_to (length weights) (at weights) d → more ≤ 140737488355328 → IsFarSum s (d + 1) (sum + more)
 one_farther s d sum more weights d_in is to added light = record {
   light = omega (arith, is.light, light);
   far = λ distance are. sum_before_more (node_count s.topology) distance d sum more (is.far distance are)

@@ -1,4 +1,5 @@
-pub mod Also
+pub mod InParts
+pub mod Marked
 pub mod Counted
 pub mod Links
 pub mod Offsets

@@ -48,7 +48,7 @@ degree_le net ok u =
 pub before_more : (net : Topology) (u : ℕ) → u < node_count net → exits_before net (u + 1) ≡ exits_before net u + length (ports_of net u)
 before_more net u lt = sum_by_more length net.ports u [] lt
 
-pub before_le : (net : Topology) → IsTopology net → (u : ℕ) → u ≤ node_count net → exits_before net u ≤ 16384 * u
+pub before_le : (net : Topology) → IsTopology net → (u : ℕ) → u ≤ node_count net → exits_before net u ≤ 32768 * u
 before_le net ok zero le = omega arith
 before_le net ok (suc u) le =
     let more : exits_before net (u + 1) ≡ exits_before net u + length (ports_of net u) = before_more net u (omega (arith, le)) in

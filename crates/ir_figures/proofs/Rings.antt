@@ -6,12 +6,9 @@ use Rattle.ir_model.specs.declared.Hop.{Hop}
 use Rattle.ir_model.specs.Topology.{Topology, IsTopology, node_count, ports_of, port_at}
 use Rattle.ir_model.specs.Plan.{Plan, IsPlan}
 use Rattle.ir_model.proofs.Walks.{port_facts}
-use Rattle.std.specs.Global.{Vec}
-use Rattle.ir_figures.proofs.Marks.{marks_len}
 use Rattle.ir_figures.specs.Arcs.{marks_of, width_of, IsArc, IsDigraph, IsAcyclic, IsRing}
-use Rattle.ir_figures.specs.Waits.{Waits, WaitsInEither, IsWithoutRing, IsWaitingRing}
-use Rattle.ir_figures.specs.Exits.{exits_before, AreExits, IsExitAt, AreLinks, AreRowsMarkedAlso, AreLeftBy}
-use Rattle.ir_figures.proofs.Also.{links_of_either}
+use Rattle.ir_figures.specs.Waits.{Waits, IsWithoutRing, IsWaitingRing}
+use Rattle.ir_figures.specs.Exits.{exits_before, AreExits, IsExitAt, AreLinks, AreLeftBy}
 use Rattle.ir_figures.proofs.Offsets.{degree_le, before_more, before_le, before_mono, one_node}
 use Rattle.ir_figures.proofs.Onward.{port_below, mark_within}
 
@@ -31,10 +28,6 @@ waits_leads s is u p v q w = record {
   leads = w.leads;
   there = w.there;
 }
-
-pub either_leads : (s t : Plan) → IsPlan s → IsPlan t → t.topology ≡ s.topology → (u p v q : ℕ) → WaitsInEither s t u p v q → LinkLeads s.topology u p v
-either_leads s t is it same u p v q (inl w) = waits_leads s is u p v q w
-either_leads s t is it same u p v q (inr w) = subst (λ (net : Topology). LinkLeads net u p v) same (waits_leads t it u p v q w)
 
 -- what holds of each node of waiting links holds of each node of a ring
 pub ring_nodes : (net : Topology) (waits : ℕ → ℕ → ℕ → ℕ → Type 0) → ((u p v q : ℕ) → waits u p v q → LinkLeads net u p v) → (nodes ports : List ℕ) → IsWaitingRing waits nodes ports
@@ -167,26 +160,3 @@ module _ (net : Topology) (ok : IsTopology net) (first nodes : List ℕ) (exits 
                 (on (length ring - 1) 0 (omega (arith, r.some)) r.some r.closed);
           },
         )
-
-  -- the rows of a link's marks are as wide by whichever relation
-  pub as_wide : (one other : ℕ → ℕ → ℕ → ℕ → Type 0) (blocks others : List ℕ) (marks more : List (List Bool)) → AreLinks net one blocks marks (exits_before net (node_count net))
-      → AreLinks net other others more (exits_before net (node_count net)) → (c : ℕ) → c < length nodes → width_of marks c ≡ width_of more c
-  as_wide one other blocks others marks more links extra c lt =
-      let a = exit one blocks marks links c lt in
-      let b = exit other others more extra c lt in
-      let same : a.hop ≡ b.hop = cc (a.leads, b.leads) in
-      a.onward.every ∙ ap (λ (h : Hop). length (ports_of net h.node)) same ∙ sym b.onward.every
-
--- the links of two plans over one network, with the marks of both
-pub links_together : (s t : Plan) (begins others : List ℕ) (marks more now rows : List (Vec Bool)) → t.topology ≡ s.topology
-    → AreLinks s.topology (Waits s) begins (marks_of marks) (exits_before s.topology (node_count s.topology))
-    → AreLinks t.topology (Waits t) others (marks_of more) (exits_before t.topology (node_count t.topology))
-    → now ≡ more → AreRowsMarkedAlso (length now) (marks_of marks) (marks_of now) (marks_of rows)
-    → AreLinks s.topology (WaitsInEither s t) begins (marks_of rows) (exits_before s.topology (node_count s.topology))
-links_together s t begins others marks more now rows same links extra slice also =
-    let net : Topology = s.topology in
-    let moved = subst (λ (x : Topology). AreLinks x (Waits t) others (marks_of more) (exits_before x (node_count x))) same extra in
-    let size : length more ≡ exits_before net (node_count net) = sym (marks_len more) ∙ moved.every_row in
-    let sliced = subst (λ (xs : List (Vec Bool)). AreRowsMarkedAlso (length xs) (marks_of marks) (marks_of xs) (marks_of rows)) slice also in
-    let all = subst (λ (n : ℕ). AreRowsMarkedAlso n (marks_of marks) (marks_of more) (marks_of rows)) size sliced in
-    links_of_either net (Waits s) (Waits t) begins others (marks_of marks) (marks_of more) (marks_of rows) (exits_before net (node_count net)) links moved all

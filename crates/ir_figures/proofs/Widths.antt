@@ -14,18 +14,18 @@ use Rattle.ir_figures.specs.RowBits.{row_bits, table_bits, AreBitsBefore}
 pub one_width : (n a b : ℕ) → IsWidth n a → IsWidth n b → a ≡ b
 one_width n a b x y = omega (arith, x.least b y.enough, y.least a x.enough)
 
-pub row_short : (s : Plan) → IsPlan s → (u : ℕ) → u < node_count s.topology → length (row_in s u) ≤ 16384
+pub row_short : (s : Plan) → IsPlan s → (u : ℕ) → u < node_count s.topology → length (row_in s u) ≤ 32768
 row_short s is u lt = omega (arith, short_row (node_count s.topology) (label_in s u) (by_label s u) (row_in s u) (is.rows u lt), is.topology.few_nodes)
 
 -- as many bits as the width of a number that takes two bytes
 pub narrow : (n a : ℕ) → n ≤ 65536 → IsWidth n a → a ≤ 16
 narrow n a few w = w.least 16 (omega (arith, few))
 
-pub light_row : (starts label port : ℕ) → starts ≤ 16384 → label ≤ 16 → port ≤ 16 → starts * (label + port) ≤ 524288
-light_row starts label port a b c = (let sum : label + port ≤ 32 = omega (arith, b, c) in let product : starts * (label + port) ≤ 16384 * 32 = mul-le-mul a sum in omega (arith, product))
+pub light_row : (starts label port : ℕ) → starts ≤ 32768 → label ≤ 16 → port ≤ 16 → starts * (label + port) ≤ 1048576
+light_row starts label port a b c = (let sum : label + port ≤ 32 = omega (arith, b, c) in let product : starts * (label + port) ≤ 32768 * 32 = mul-le-mul a sum in omega (arith, product))
 
-pub light_table : (nodes port : ℕ) → nodes ≤ 16384 → port ≤ 16 → (nodes - 1) * port ≤ 524288
-light_table nodes port a b = (let less : nodes - 1 ≤ 16384 = omega (arith, a) in let product : (nodes - 1) * port ≤ 16384 * 16 = mul-le-mul less b in omega (arith, product))
+pub light_table : (nodes port : ℕ) → nodes ≤ 32768 → port ≤ 16 → (nodes - 1) * port ≤ 524288
+light_table nodes port a b = (let less : nodes - 1 ≤ 32768 = omega (arith, a) in let product : (nodes - 1) * port ≤ 32768 * 16 = mul-le-mul less b in omega (arith, product))
 
 sum_more : (f : ℕ → ℕ) (u : ℕ) → sum_by f (range_with_len 0 (u + 1)) ≡ sum_by f (range_with_len 0 u) + f u
 sum_more f u =

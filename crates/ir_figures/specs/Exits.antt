@@ -61,19 +61,6 @@ module _ (topology : Topology) (waits : ℕ → ℕ → ℕ → ℕ → Type 0) 
 abbrev pub AreNextExits : List ℕ → ℕ → ℕ → List ℕ → Type 0
 AreNextExits old u count new = new ≡ old ++ replicate count u
 
--- of the first so many places those are marked that were marked, or are so in another row
-pub record AreMarkedAlso (count : ℕ) (old other new : List Bool) : Type 0 where
-  pub every : length new ≡ length old
-  pub kept : (q : ℕ) → slice_index_or old q false ≡ true → slice_index_or new q false ≡ true
-  pub also : (q : ℕ) → q < count → slice_index_or other q false ≡ true → slice_index_or new q false ≡ true
-  pub only : (q : ℕ) → slice_index_or new q false ≡ true → (slice_index_or old q false ≡ true) ⊎ (slice_index_or other q false ≡ true)
-
--- the same of each of the first so many rows, and the others stay
-pub record AreRowsMarkedAlso (count : ℕ) (old others new : List (List Bool)) : Type 0 where
-  pub every : length new ≡ length old
-  pub done : (c : ℕ) → c < count → AreMarkedAlso (length (slice_index_or others c [])) (slice_index_or old c []) (slice_index_or others c []) (slice_index_or new c [])
-  pub rest : (c : ℕ) → count ≤ c → slice_index_or new c [] ≡ slice_index_or old c []
-
 -- the nodes that links of these numbers leave
 pub record AreLeftBy (nodes ring named : List ℕ) : Type 0 where
   pub every : length named ≡ length ring

@@ -18,7 +18,7 @@ use Rattle.ir_show.specs.PlanText.{kind_text}
 use Rattle.ir_show.specs.StatsText.{AreWalkWeights, ArePlanDistances, IsGreatestRow, IsWorstOf}
 use Rattle.ir_show.specs.Words.{line_text}
 use Rattle.ir_figures.specs.RowBits.{AreBitsBefore}
-use Rattle.ir_figures.specs.Waits.{Waits}
+use Rattle.ir_figures.specs.Waits.{whole_number, Waits, WaitsBeside}
 use Rattle.ir_figures.specs.FiguresText.{IsRingOf}
 use Rattle.ir_figures.specs.Compared.{count_words, stretch_words, ring_word}
 
@@ -38,6 +38,18 @@ pub record AreFigureWords (plan : Plan) (words : List (List ℕ)) : Type 0 where
   pub ring : Option (List ℕ)
   pub ring_is : IsRingOf (Waits plan) ring
   pub whole : words ≡ count_words plan greatest rows ++ stretch_words (node_count plan.topology) walk distance worst ++ ring_word ring ∷ []
+
+-- Whether links wait for each other in a ring while packets of another plan, over the whole network, are under way too, if
+-- there is one. The plan is over that network, without a node if there is one.
+abbrev pub IsRingWord : Option Plan → Option ℕ → Plan → List (List ℕ) → Type 0
+IsRingWord None without plan words = words ≡ []
+IsRingWord (Some other) without plan words =
+    (ring : Option (List ℕ)) × IsRingOf (WaitsBeside other (whole_number without) plan) ring × (words ≡ ring_word ring ∷ [])
+
+-- the words of a plan's figures, and after them that one
+abbrev pub AreFiguresWith : Option Plan → Option ℕ → Plan → List (List ℕ) → Type 0
+AreFiguresWith other without plan words =
+    (figures more : List (List ℕ)) × AreFigureWords plan figures × IsRingWord other without plan more × (words ≡ figures ++ more)
 
 -- all of so many links are up, but one
 abbrev pub all_but : ℕ → ℕ → List Bool
@@ -62,18 +74,19 @@ labelling_left plan None = labelling_kept plan.kind plan
 
 -- The words say what a network comes to: the figures of the plan over it of this kind and these labels, that some node has
 -- no walk to some node, or that there is no node.
-abbrev pub AreWordsOf : Topology → Kind → Labelling → List (List ℕ) → Type 0
-AreWordsOf net kind labels words =
-    ((plan : Plan) × IsPlanBy net kind labels plan × AreFigureWords plan words)
+abbrev pub AreWordsOf : Topology → Kind → Labelling → Option Plan → Option ℕ → List (List ℕ) → Type 0
+AreWordsOf net kind labels other without words =
+    ((plan : Plan) × IsPlanBy net kind labels plan × AreFiguresWith other without plan words)
     ⊎ (IsDisconnected net × (words ≡ codes "disconnected" ∷ []))
     ⊎ ((node_count net ≡ 0) × (words ≡ codes "empty" ∷ []))
 
--- `A B ..`: the ends of the link l, and what the network without it comes to.
-pub record IsLinkLine (nodes : List Name) (plan : Plan) (labels : Option LabelOrder) (l : ℕ) (line : List ℕ) : Type 0 where
+-- `A B ..`: the ends of the link l, and what the network without it comes to, beside another plan over the whole network if
+-- there is one. That plan keeps the link.
+pub record IsLinkLine (nodes : List Name) (plan : Plan) (labels : Option LabelOrder) (other : Option Plan) (l : ℕ) (line : List ℕ) : Type 0 where
   pub link : Link
   pub at : slice_get plan.topology.links l ≡ Some link
   pub words : List (List ℕ)
-  pub left : AreWordsOf (without_link plan.topology l) plan.kind (labelling_left plan labels) words
+  pub left : AreWordsOf (without_link plan.topology l) plan.kind (labelling_left plan labels) other None words
   pub whole : line ≡ line_text (name_at nodes link.low ∷ name_at nodes link.high ∷ words)
 
 -- `each WHAT KIND N M ..`: with the figures of the plan of the whole network
@@ -81,12 +94,12 @@ abbrev pub failures_head : List ℕ → Plan → List (List ℕ) → List (List 
 failures_head what plan words =
     codes "each" ∷ what ∷ kind_text plan.kind ∷ decimal (node_count plan.topology) ∷ decimal (length plan.topology.links) ∷ words
 
--- The text has the figures of a plan, and behind them a line for each link, by number.
-pub record AreLinkFailures (nodes : List Name) (plan : Plan) (labels : Option LabelOrder) (text : List ℕ) : Type 0 where
+-- The text has the figures of a plan, and after them a line for each link, by number.
+pub record AreLinkFailures (nodes : List Name) (plan : Plan) (labels : Option LabelOrder) (other : Option Plan) (text : List ℕ) : Type 0 where
   pub words : List (List ℕ)
-  pub figures : AreFigureWords plan words
+  pub figures : AreFiguresWith other None plan words
   pub lines : List (List ℕ)
-  pub each : AllZip (IsLinkLine nodes plan labels) (range_with_len 0 (length plan.topology.links)) lines
+  pub each : AllZip (IsLinkLine nodes plan labels other) (range_with_len 0 (length plan.topology.links)) lines
   pub whole : text ≡ line_text (failures_head (codes "links") plan words) ++ flat_map (λ line. line) lines
 
 -- ---- where a node fails
@@ -120,16 +133,17 @@ abbrev pub labelling_without : Kind → Plan → Option LabelOrder → ℕ → L
 labelling_without kind plan (Some order) k = FromRoot order (root_left k plan.root)
 labelling_without kind plan None k = labelling_less kind plan k
 
--- `A ..`: the node k, and what the network without it comes to by a plan of this kind.
-pub record IsNodeLine (g : Adjacency) (plan : Plan) (kind : Kind) (labels : Option LabelOrder) (k : ℕ) (line : List ℕ) : Type 0 where
+-- `A ..`: the node k, and what the network without it comes to by a plan of this kind, beside another plan over the whole
+-- network if there is one. That plan keeps the node.
+pub record IsNodeLine (g : Adjacency) (plan : Plan) (kind : Kind) (labels : Option LabelOrder) (other : Option Plan) (k : ℕ) (line : List ℕ) : Type 0 where
   pub words : List (List ℕ)
-  pub left : AreWordsOf (network_without g k) kind (labelling_without kind plan labels k) words
+  pub left : AreWordsOf (network_without g k) kind (labelling_without kind plan labels k) other (Some k) words
   pub whole : line ≡ line_text (name_at (names g) k ∷ words)
 
 -- The text has the figures of a plan, and after them a line for each node, in order.
-pub record AreNodeFailures (g : Adjacency) (plan : Plan) (kind : Kind) (labels : Option LabelOrder) (text : List ℕ) : Type 0 where
+pub record AreNodeFailures (g : Adjacency) (plan : Plan) (kind : Kind) (labels : Option LabelOrder) (other : Option Plan) (text : List ℕ) : Type 0 where
   pub words : List (List ℕ)
-  pub figures : AreFigureWords plan words
+  pub figures : AreFiguresWith other None plan words
   pub lines : List (List ℕ)
-  pub each : AllZip (IsNodeLine g plan kind labels) (range_with_len 0 (node_count plan.topology)) lines
+  pub each : AllZip (IsNodeLine g plan kind labels other) (range_with_len 0 (node_count plan.topology)) lines
   pub whole : text ≡ line_text (failures_head (codes "nodes") plan words) ++ flat_map (λ line. line) lines

@@ -9,7 +9,7 @@ use Rattle.ir_show.specs.Figures.{sum_before}
 
 -- the sum of the distances to the first so many nodes
 pub record IsFarSum (plan : Plan) (count sum : ℕ) : Type 0 where
-  pub light : sum ≤ 70368744177664 * count
+  pub light : sum ≤ 140737488355328 * count
   pub far : (distance : ℕ → ℕ → ℕ) → ArePlanDistances plan distance → sum ≡ sum_before (node_count plan.topology) distance count
 
 -- the pair of the nodes 0 and 1, with its distance as the weight of its walk

@@ -8,6 +8,7 @@ pub mod Failures
 pub mod Arcs
 -- what bodies use
 pub mod Exits
+pub mod Parts
 pub mod Columns
 pub mod Far
 pub mod Made

@@ -1,7 +1,7 @@
 -- Which directed links of plans wait for which (the channel dependency graph of Dally and Seitz 1987).
-use Rattle.std.specs.Prelude.{◌≡◌, ◌≢◌, ◌⊎◌, ℕ, ◌+◌, ◌-◌, ◌<◌, Some, List, length, slice_index}
+use Rattle.std.specs.Prelude.{◌≡◌, ◌≢◌, ◌⊎◌, ℕ, ◌+◌, ◌-◌, ◌<◌, Option, Some, None, nat_lt, if◌then◌else◌, List, length, slice_index}
 use Rattle.ir_model.specs.declared.Hop.{Hop}
-use Rattle.ir_model.specs.Topology.{node_count, port_at}
+use Rattle.ir_model.specs.Topology.{Topology, node_count, port_at}
 use Rattle.ir_model.specs.Plan.{Plan, table_port}
 
 -- The directed link by port p of u waits for the one by port q of v: a prescribed walk takes one after the other.
@@ -18,6 +18,36 @@ pub record Waits (plan : Plan) (u p v q : ℕ) : Type 0 where
 -- it does so in one of two plans, as where packets of both are under way
 abbrev pub WaitsInEither : Plan → Plan → ℕ → ℕ → ℕ → ℕ → Type 0
 WaitsInEither plan other u p v q = Waits plan u p v q ⊎ Waits other u p v q
+
+-- the number that a node of the network without the node k has in the whole network; without none it is the same one
+abbrev pub whole_number : Option ℕ → ℕ → ℕ
+whole_number None u = u
+whole_number (Some k) u = if nat_lt u k then u else u + 1
+
+-- The directed link by port p of u in the whole network is the one by port r of x in a part of it, whose nodes have these
+-- numbers in the whole network: both lead from one node to one other.
+pub record IsSameLink (whole : Topology) (number : ℕ → ℕ) (part : Topology) (u p x r : ℕ) : Type 0 where
+  pub hop : Hop
+  pub leads : port_at whole u p ≡ Some hop
+  pub inner : Hop
+  pub inner_leads : port_at part x r ≡ Some inner
+  pub from : number x ≡ u
+  pub to : number inner.node ≡ hop.node
+
+-- The directed link by port p of u waits for the one by port q of v by a plan over a part of the network: there the same
+-- links do so.
+pub record WaitsInPart (whole : Topology) (number : ℕ → ℕ) (plan : Plan) (u p v q : ℕ) : Type 0 where
+  pub x : ℕ
+  pub r : ℕ
+  pub y : ℕ
+  pub s : ℕ
+  pub wait : Waits plan x r y s
+  pub first : IsSameLink whole number plan.topology u p x r
+  pub next : IsSameLink whole number plan.topology v q y s
+
+-- It does so by a plan over the whole network or by one over a part, as where packets of both are under way.
+abbrev pub WaitsBeside : Plan → (ℕ → ℕ) → Plan → ℕ → ℕ → ℕ → ℕ → Type 0
+WaitsBeside plan number other u p v q = Waits plan u p v q ⊎ WaitsInPart plan.topology number other u p v q
 
 -- by which directed links wait for which
 module _ (waits : ℕ → ℕ → ℕ → ℕ → Type 0) where

@@ -22,7 +22,7 @@ fn first_place(row: &Row) -> usize
 
 /// The place of the interval that has the label after one, of which the place is given.
 fn next_place(row: &Row, a: u16, place: usize) -> usize
-    requires label { a < 16384 }
+    requires label { a < 32768 }
     requires within { place ≤ length row.now }
     ensures within { result ≤ length row.now }
     ensures place { IsPlaceOf (labels row.now) a place → IsPlaceOf (labels row.now) (a + 1) result }

@@ -41,9 +41,9 @@ fn weight_at(weights: &[u32], u: usize) -> u32
 
 /// The sum of the weights to a node from the others.
 fn sum_to(weights: &[u32], d: u16) -> u64
-    requires few { length weights.now ≤ 16384 }
+    requires few { length weights.now ≤ 32768 }
     ensures sum { result ≡ sum_to (length weights.now) (at weights.now) d }
-    ensures light { result ≤ 70368744177664 }
+    ensures light { result ≤ 140737488355328 }
 {
     let mut sum = 0;
     for u in 0..weights.len() {
@@ -55,7 +55,7 @@ fn sum_to(weights: &[u32], d: u16) -> u64
 /// Sixteen numbers of nodes from one on; past the last node, that one again.
 fn sixteen_from(alloc: Global, nodes: usize, first: usize) -> Result<Vec<u16>, AllocError>
     requires first { first < nodes }
-    requires few { nodes ≤ 16384 }
+    requires few { nodes ≤ 32768 }
     ensures sixteen { IfOk result (λ sixteen. length sixteen.items ≡ 16) }
     ensures each { IfOk result (λ sixteen. (k : ℕ) → k < 16
         → slice_index sixteen.items k ≡ min (first + k) (nodes - 1)) }

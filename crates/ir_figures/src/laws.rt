@@ -1,17 +1,19 @@
 //! Laws of links that wait for each other, and of comparisons.
 ghost use Rattle.std.specs.Prelude.{◌≡◌, ℕ, List};
 ghost use Rattle.ir_model.specs.{declared.Detour.Detour, declared.Kind.TheVariants.Tree, Plan.{Plan, IsPlan}, Topology.Topology};
-ghost use Rattle.ir_figures.specs.Waits.{Waits, WaitsInEither, IsWithoutRing, IsWaitingRing};
+ghost use Rattle.ir_figures.specs.Waits.{Waits, WaitsInEither, WaitsBeside, IsWithoutRing, IsWaitingRing};
 ghost use Rattle.ir_figures.specs.Compared.{IsRowOf, IsComparison};
 ghost use Rattle.ir_plan.specs.declared.tour.LabelOrder.{LabelOrder};
 
 /// Where the links can be numbered such that each waits for greater ones alone, no links wait for each other in a ring,
-/// by one plan or by either of two.
+/// by one plan, by either of two, or by one and another over a part of its network.
 pub fn numbers_rule_out_rings()
     ensures alone { (plan : Plan) (nodes ports : List ℕ) → IsWithoutRing (Waits plan)
         → IsWaitingRing (Waits plan) nodes ports → ⊥ }
     ensures together { (plan other : Plan) (nodes ports : List ℕ) → IsWithoutRing (WaitsInEither plan other)
         → IsWaitingRing (WaitsInEither plan other) nodes ports → ⊥ }
+    ensures beside { (plan part : Plan) (number : ℕ → ℕ) (nodes ports : List ℕ)
+        → IsWithoutRing (WaitsBeside plan number part) → IsWaitingRing (WaitsBeside plan number part) nodes ports → ⊥ }
 {}
 
 /// In a tree plan no links wait for each other in a ring: links towards the root come before links away from it.

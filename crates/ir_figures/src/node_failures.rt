@@ -5,9 +5,10 @@ ghost use Rattle.ir_model.specs.{Graph.{has_node, without_node}, Topology.node_c
 ghost use Rattle.ir_model.specs.OfGraph.{topology_of_graph};
 ghost use Rattle.ir_plan.specs.Building.{labelling_of};
 ghost use Rattle.ir_figures.specs.Failures.{number_left, root_left, list_left, labelling_less, labelling_without, IsNodeLine, AreNodeFailures};
-ghost use Rattle.ir_figures.specs.Made.{bytes_made};
+ghost use Rattle.ir_figures.specs.Made.{bytes_made, IsOtherOver};
 
 use crate::failures::{failures_text, nodes_by_label, push_plan};
+use crate::parts::Beside;
 use ir_graph::Graph;
 use ir_model::Kind;
 use ir_plan::{LabelOrder, Labels, NodeText, Plan};
@@ -87,11 +88,12 @@ fn network_without(alloc: Global, graph: Graph, name: &str) -> Result<Topology, 
 /// The line of a node that fails: its name, and the figures of the plan of a kind over the network
 /// without it. That plan is labelled in an order from the same root, or from the first node that is
 /// left where the root fails; without an order with the labels of the whole network's plan, in their
-/// order, but a tree always depth first. `copy` is a second graph equal to `graph`, from which the node
-/// is removed.
+/// order, but a tree always depth first. Where there is another plan, the figures say last whether
+/// links wait for each other in a ring while its packets are under way too; it keeps the node. `copy`
+/// is a second graph equal to `graph`, from which the node is removed.
 ///
-/// Condition: the plan is over the graph's network. It is refused for memory alone. It takes as long
-/// as the plan and its figures.
+/// Conditions: the plan is over the graph's network, and the other one over the same. It is refused
+/// for memory alone. It takes as long as the plan and its figures.
 pub fn node_failure_line(
     alloc: Global,
     graph: &Graph,
@@ -99,12 +101,14 @@ pub fn node_failure_line(
     plan: &Plan,
     kind: Kind,
     order: Option<LabelOrder>,
+    other: &Option<Beside>,
     k: u16,
 ) -> Result<NodeText, AllocError>
     requires node { k < length graph.now }
     requires copied { copy ≡ graph.now }
     requires over { plan.now.topology ≡ topology_of_graph graph.now }
-    ensures { IfOk result (λ made. IsNodeLine graph.now plan.now kind order k (bytes_made made)) }
+    requires other { IsOtherOver other.now plan.now.topology }
+    ensures { IfOk result (λ made. IsNodeLine graph.now plan.now kind order other.now k (bytes_made made)) }
 {
     plan.invariant();
     graph.invariant();
@@ -113,7 +117,7 @@ pub fn node_failure_line(
     let labels = labels_without(alloc, kind, plan, order, k)?;
     let mut text = String::new(alloc);
     text.push_str(name)?;
-    push_plan(&mut text, alloc, left, kind, labels)?;
+    push_plan(&mut text, alloc, left, kind, labels, other, Some(k))?;
     text.push_str("\n")?;
     Ok(NodeText { text, lines: 1 })
 }
@@ -126,11 +130,13 @@ pub fn node_failures_text(
     plan: &Plan,
     kind: Kind,
     order: Option<LabelOrder>,
+    other: &Option<Beside>,
     lines: &[NodeText],
 ) -> Result<String, AllocError>
-    requires lines { AllZip (λ k one. IsNodeLine graph.now plan.now kind order k (bytes_made one))
+    requires other { IsOtherOver other.now plan.now.topology }
+    requires lines { AllZip (λ k one. IsNodeLine graph.now plan.now kind order other.now k (bytes_made one))
         (range_with_len 0 (node_count plan.now.topology)) lines.now }
-    ensures { IfOk result (λ text. AreNodeFailures graph.now plan.now kind order (string_bytes text)) }
+    ensures { IfOk result (λ text. AreNodeFailures graph.now plan.now kind order other.now (string_bytes text)) }
 {
-    failures_text(alloc, plan, "nodes", lines)
+    failures_text(alloc, plan, other, "nodes", lines)
 }

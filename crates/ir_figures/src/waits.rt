@@ -1,11 +1,13 @@
 //! Rings of directed links that wait for each other.
 ghost use Rattle.std.specs.Prelude.{◌≡◌, ◌+◌, ◌<◌, ℕ, List, true, false, replicate, IfNone, IfOk, IfSome, OnOk, length, slice_index, slice_set};
 ghost use Rattle.ir_model.specs.{Topology.node_count, Plan.IsPlan};
-ghost use Rattle.ir_figures.specs.Arcs.{marks_of, width_of, IsDigraph, IsAcyclic, IsRing};
+ghost use Rattle.ir_figures.specs.Arcs.{marks_of, IsDigraph, IsAcyclic, IsRing};
 ghost use Rattle.ir_figures.specs.Waits.{Waits, WaitsInEither, IsWithoutRing, IsWaitingRing};
-ghost use Rattle.ir_figures.specs.Exits.{exits_before, AreExits, AreNextExits, ArePortsTo, WaitsSoFar, AreLinks, AreMarkedAlso, AreRowsMarkedAlso, AreLeftBy};
+ghost use Rattle.ir_figures.specs.Exits.{exits_before, AreExits, AreNextExits, ArePortsTo, WaitsSoFar, AreLinks, AreLeftBy};
+ghost use Rattle.ir_figures.specs.Parts.{AreWaitsOf};
 
 use crate::column::{first_places, read_column};
+use crate::parts::ring_beside;
 use crate::search::ring_of;
 use ir_plan::Plan;
 use ir_tables::Topology;
@@ -13,9 +15,9 @@ use std::alloc::{AllocError, Global};
 
 /// Where the links that leave each node begin, and the node that each link leaves.
 #[derive(Drop)]
-struct Exits {
-    first: Vec<u32>,
-    nodes: Vec<u16>,
+pub struct Exits {
+    pub(crate) first: Vec<u32>,
+    pub(crate) nodes: Vec<u16>,
 }
 
 /// Writes a node as often as it has links.
@@ -45,9 +47,9 @@ fn exits_of(alloc: Global, topology: &Topology) -> Result<Exits, AllocError>
 /// For each directed link where the links begin of the node that it leads to, and which of these links take on what
 /// comes over it.
 #[derive(Drop)]
-struct Links {
-    begins: Vec<u32>,
-    marks: Vec<Vec<bool>>,
+pub struct Links {
+    pub(crate) begins: Vec<u32>,
+    pub(crate) marks: Vec<Vec<bool>>,
 }
 
 /// So many places without a mark.
@@ -99,7 +101,7 @@ fn still_links(alloc: Global, plan: &Plan, first: &[u32]) -> Result<Links, Alloc
 }
 
 /// Marks a place of a row.
-fn mark(row: &mut Vec<bool>, q: usize)
+pub(crate) fn mark(row: &mut Vec<bool>, q: usize)
     requires { q < length row.old.items }
     ensures { row.new.items ≡ slice_set row.old.items q true }
 {
@@ -172,46 +174,60 @@ fn nodes_of(alloc: Global, nodes: &[u16], ring: &[u32]) -> Result<Vec<u16>, Allo
     Ok(named)
 }
 
-/// Marks in a row what another one marks.
-fn mark_also(row: &mut Vec<bool>, other: &[bool])
-    requires { length row.old.items ≡ length other.now }
-    ensures { AreMarkedAlso (length other.now) row.old.items other.now row.new.items }
-{
-    for q in 0..other.len() {
-        if other[q] {
-            row[q] = true;
-        }
-    }
+/// The directed links of a plan's network, and which of them wait for which.
+#[derive(Drop)]
+pub struct Waiting {
+    pub(crate) exits: Exits,
+    pub(crate) links: Links,
 }
 
-/// Marks in each row what another list's row marks.
-fn mark_rows_also(rows: &mut Vec<Vec<bool>>, others: &[Vec<bool>])
-    requires every { length rows.old.items ≡ length others.now }
-    requires wide { (c : ℕ) → c < length others.now
-        → width_of (marks_of rows.old.items) c ≡ width_of (marks_of others.now) c }
-    ensures { AreRowsMarkedAlso (length others.now) (marks_of rows.old.items) (marks_of others.now)
-        (marks_of rows.new.items) }
+/// The directed links of a plan's network, and which of them wait for which.
+pub(crate) fn waiting_of(alloc: Global, plan: &Plan) -> Result<Waiting, AllocError>
+    ensures { IfOk result (λ waiting. AreWaitsOf plan.now waiting) }
 {
-    for c in 0..others.len() {
-        mark_also(&mut rows[c], others[c].as_slice());
-    }
+    let exits = exits_of(alloc, plan.topology())?;
+    let links = links_of(alloc, plan, exits.first.as_slice())?;
+    Ok(Waiting { exits, links })
 }
 
 /// The nodes that the links of a ring leave, if there is one.
-fn ring_in(alloc: Global, exits: &Exits, links: &Links) -> Result<Option<Vec<u16>>, AllocError>
-    requires digraph { IsDigraph links.now.begins.items (marks_of links.now.marks.items) }
-    requires every { length exits.now.nodes.items ≡ length links.now.marks.items }
-    ensures acyclic { IfOk result (λ found.
-        IfNone found (IsAcyclic links.now.begins.items (marks_of links.now.marks.items))) }
-    ensures ring { IfOk result (λ found. IfSome found (λ nodes. (ring : List ℕ)
-        × IsRing links.now.begins.items (marks_of links.now.marks.items) ring
-        × AreLeftBy exits.now.nodes.items ring nodes.items)) }
+pub(crate) fn ring_in(
+    alloc: Global,
+    nodes: &[u16],
+    begins: &[u32],
+    marks: &[Vec<bool>],
+) -> Result<Option<Vec<u16>>, AllocError>
+    requires digraph { IsDigraph begins.now (marks_of marks.now) }
+    requires every { length nodes.now ≡ length marks.now }
+    ensures acyclic { IfOk result (λ found. IfNone found (IsAcyclic begins.now (marks_of marks.now))) }
+    ensures ring { IfOk result (λ found. IfSome found (λ named. (ring : List ℕ)
+        × IsRing begins.now (marks_of marks.now) ring × AreLeftBy nodes.now ring named.items)) }
 {
-    let Some(ring) = ring_of(alloc, links.begins.as_slice(), links.marks.as_slice())? else {
+    let Some(ring) = ring_of(alloc, begins, marks)? else {
         return Ok(None);
     };
-    let named = nodes_of(alloc, exits.nodes.as_slice(), ring.as_slice())?;
+    let named = nodes_of(alloc, nodes, ring.as_slice())?;
     Ok(Some(named))
+}
+
+/// The nodes that waiting links of a plan leave in a ring, if there is one.
+pub(crate) fn ring_of_waits(
+    alloc: Global,
+    plan: &Plan,
+    waiting: &Waiting,
+) -> Result<Option<Vec<u16>>, AllocError>
+    requires { AreWaitsOf plan.now waiting.now }
+    ensures acyclic { IfOk result (λ found. IfNone found (IsWithoutRing (Waits plan.now))) }
+    ensures ring { IfOk result (λ found.
+        IfSome found (λ nodes. (ports : List ℕ) × IsWaitingRing (Waits plan.now) nodes.items ports)) }
+{
+    plan.invariant();
+    ring_in(
+        alloc,
+        waiting.exits.nodes.as_slice(),
+        waiting.links.begins.as_slice(),
+        waiting.links.marks.as_slice(),
+    )
 }
 
 /// Nodes that directed links leave which wait for each other in a ring, in order; None where the
@@ -226,10 +242,8 @@ pub fn waiting_ring(alloc: Global, plan: &Plan) -> Result<Option<Vec<u16>>, Allo
     ensures ring { IfOk result (λ found.
         IfSome found (λ nodes. (ports : List ℕ) × IsWaitingRing (Waits plan.now) nodes.items ports)) }
 {
-    plan.invariant();
-    let exits = exits_of(alloc, plan.topology())?;
-    let links = links_of(alloc, plan, exits.first.as_slice())?;
-    ring_in(alloc, &exits, &links)
+    let waiting = waiting_of(alloc, plan)?;
+    ring_of_waits(alloc, plan, &waiting)
 }
 
 /// The same of two plans over one network together: a link waits for another one where it does so
@@ -250,9 +264,7 @@ pub fn waiting_ring_together(
 {
     plan.invariant();
     second.invariant();
-    let exits = exits_of(alloc, plan.topology())?;
-    let mut links = links_of(alloc, plan, exits.first.as_slice())?;
-    let more = links_of(alloc, second, exits.first.as_slice())?;
-    mark_rows_also(&mut links.marks, more.marks.as_slice());
-    ring_in(alloc, &exits, &links)
+    let waiting = waiting_of(alloc, plan)?;
+    let more = waiting_of(alloc, second)?;
+    ring_beside(alloc, plan, &waiting, None, second, &more)
 }

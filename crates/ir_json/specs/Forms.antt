@@ -111,8 +111,8 @@ head_form shapes.Order words = plain (codes "$")
 head_form shapes.Walk words = plain (codes "{$:$,\"from\":$,\"to\":$,\"address\":#,\"weight\":#,\"hops\":[")
 head_form shapes.Stats words = figure_form words
 head_form shapes.Compare words = plain (codes "{$:{\"nodes\":#,\"links\":#},\"plans\":[")
-head_form shapes.Failures words = plain (codes "{$:$,\"kind\":$,\"nodes\":#,\"links\":#,\"intervals\":#,\"greatest-row\":#,\"bits\":#,\"mean-stretch\":{\"walks\":<,\"distances\":>},\"worst-stretch\":{\"walk\":<,\"distance\":>},\"dependencies\":$,\"failures\":[")
-head_form shapes.Losses words = plain (codes "{$:$,\"kind\":$,\"nodes\":#,\"links\":#,\"intervals\":#,\"greatest-row\":#,\"bits\":#,\"mean-stretch\":{\"walks\":<,\"distances\":>},\"worst-stretch\":{\"walk\":<,\"distance\":>},\"dependencies\":$,\"failures\":[")
+head_form shapes.Failures words = if is_empty (word_at words 11) then plain (codes "{$:$,\"kind\":$,\"nodes\":#,\"links\":#,\"intervals\":#,\"greatest-row\":#,\"bits\":#,\"mean-stretch\":{\"walks\":<,\"distances\":>},\"worst-stretch\":{\"walk\":<,\"distance\":>},\"dependencies\":$,\"failures\":[") else plain (codes "{$:$,\"kind\":$,\"nodes\":#,\"links\":#,\"intervals\":#,\"greatest-row\":#,\"bits\":#,\"mean-stretch\":{\"walks\":<,\"distances\":>},\"worst-stretch\":{\"walk\":<,\"distance\":>},\"dependencies\":$,\"together\":$,\"failures\":[")
+head_form shapes.Losses words = if is_empty (word_at words 11) then plain (codes "{$:$,\"kind\":$,\"nodes\":#,\"links\":#,\"intervals\":#,\"greatest-row\":#,\"bits\":#,\"mean-stretch\":{\"walks\":<,\"distances\":>},\"worst-stretch\":{\"walk\":<,\"distance\":>},\"dependencies\":$,\"failures\":[") else plain (codes "{$:$,\"kind\":$,\"nodes\":#,\"links\":#,\"intervals\":#,\"greatest-row\":#,\"bits\":#,\"mean-stretch\":{\"walks\":<,\"distances\":>},\"worst-stretch\":{\"walk\":<,\"distance\":>},\"dependencies\":$,\"together\":$,\"failures\":[")
 head_form shapes.Diff words = plain (codes "{$:[$,$],\"nodes\":#,\"changed\":#,\"relabelled\":#,\"removed\":#,\"put\":#,\"rows\":[")
 head_form shapes.Prefixes words = plain (codes "{$:$,\"nodes\":#,\"bits\":#,\"entries\":#,\"rows\":[")
 head_form shapes.Ranges words = plain (codes "{$:$,\"nodes\":#,\"count\":#,\"rows\":[")
@@ -129,11 +129,15 @@ row_form shapes.Order place words = plain (codes "$")
 row_form shapes.Walk place words = if is_empty (word_at words 2) then plain (codes "{\"node\":$,\"label\":#}") else plain (codes "{\"node\":$,\"label\":#,\"start\":#,\"end\":#,\"next\":$,\"weight\":#}")
 row_form shapes.Stats place words = figure_form words
 row_form shapes.Compare place words = if place == 1 then plain [] else if is_word_at words 0 (codes "tables") then plain (codes "$:{~~~\"bits\":#}") else plain (codes "{\"kind\":$,\"numbering\":$,\"intervals\":#,\"greatest-row\":#,\"bits\":#,\"mean-stretch\":{\"walks\":<,\"distances\":>},\"worst-stretch\":{\"walk\":<,\"distance\":>},\"dependencies\":$}")
-row_form shapes.Failures place words = if is_word_at words 2 (codes "disconnected") then plain (codes "{\"link\":[$,$],\"disconnected\":true~}") else plain (codes "{\"link\":[$,$],\"intervals\":#,\"greatest-row\":#,\"bits\":#,\"mean-stretch\":{\"walks\":<,\"distances\":>},\"worst-stretch\":{\"walk\":<,\"distance\":>},\"dependencies\":$}")
+row_form shapes.Failures place words =
+    if is_word_at words 2 (codes "disconnected") then plain (codes "{\"link\":[$,$],\"disconnected\":true~}")
+    else if is_empty (word_at words 8) then plain (codes "{\"link\":[$,$],\"intervals\":#,\"greatest-row\":#,\"bits\":#,\"mean-stretch\":{\"walks\":<,\"distances\":>},\"worst-stretch\":{\"walk\":<,\"distance\":>},\"dependencies\":$}")
+    else plain (codes "{\"link\":[$,$],\"intervals\":#,\"greatest-row\":#,\"bits\":#,\"mean-stretch\":{\"walks\":<,\"distances\":>},\"worst-stretch\":{\"walk\":<,\"distance\":>},\"dependencies\":$,\"together\":$}")
 row_form shapes.Losses place words =
     if is_word_at words 1 (codes "disconnected") then plain (codes "{\"node\":$,\"disconnected\":true~}")
     else if is_word_at words 1 (codes "empty") then plain (codes "{\"node\":$,\"empty\":true~}")
-    else plain (codes "{\"node\":$,\"intervals\":#,\"greatest-row\":#,\"bits\":#,\"mean-stretch\":{\"walks\":<,\"distances\":>},\"worst-stretch\":{\"walk\":<,\"distance\":>},\"dependencies\":$}")
+    else if is_empty (word_at words 7) then plain (codes "{\"node\":$,\"intervals\":#,\"greatest-row\":#,\"bits\":#,\"mean-stretch\":{\"walks\":<,\"distances\":>},\"worst-stretch\":{\"walk\":<,\"distance\":>},\"dependencies\":$}")
+    else plain (codes "{\"node\":$,\"intervals\":#,\"greatest-row\":#,\"bits\":#,\"mean-stretch\":{\"walks\":<,\"distances\":>},\"worst-stretch\":{\"walk\":<,\"distance\":>},\"dependencies\":$,\"together\":$}")
 row_form shapes.Diff place words = listed (codes "{\"node\":$,\"was\":#,\"label\":#,\"remove\":[") Changes
 row_form shapes.Prefixes place words = listed (codes "{\"node\":$,\"label\":#,\"entries\":[") (Pairs (codes "{\"value\":<,\"length\":>,\"next\":?}"))
 row_form shapes.Ranges place words = listed (codes "{\"node\":$,\"label\":#,\"ranges\":[") (Pairs (codes "{\"from\":<,\"to\":>,\"next\":$}"))

@@ -20,13 +20,22 @@ const COMPARED_ROW: &str =
 const FAILURES_HEAD: &str =
     "{$:$,\"kind\":$,\"nodes\":#,\"links\":#,\"intervals\":#,\"greatest-row\":#,\"bits\":#,\"mean-stretch\":{\"walks\":<,\"distances\":>},\"worst-stretch\":{\"walk\":<,\"distance\":>},\"dependencies\":$,\"failures\":[";
 
+const FAILURES_HEAD_BESIDE: &str =
+    "{$:$,\"kind\":$,\"nodes\":#,\"links\":#,\"intervals\":#,\"greatest-row\":#,\"bits\":#,\"mean-stretch\":{\"walks\":<,\"distances\":>},\"worst-stretch\":{\"walk\":<,\"distance\":>},\"dependencies\":$,\"together\":$,\"failures\":[";
+
 const FAILURES_ROW: &str =
     "{\"link\":[$,$],\"intervals\":#,\"greatest-row\":#,\"bits\":#,\"mean-stretch\":{\"walks\":<,\"distances\":>},\"worst-stretch\":{\"walk\":<,\"distance\":>},\"dependencies\":$}";
+
+const FAILURES_ROW_BESIDE: &str =
+    "{\"link\":[$,$],\"intervals\":#,\"greatest-row\":#,\"bits\":#,\"mean-stretch\":{\"walks\":<,\"distances\":>},\"worst-stretch\":{\"walk\":<,\"distance\":>},\"dependencies\":$,\"together\":$}";
 
 const FAILURES_CUT: &str = "{\"link\":[$,$],\"disconnected\":true~}";
 
 const LOSSES_ROW: &str =
     "{\"node\":$,\"intervals\":#,\"greatest-row\":#,\"bits\":#,\"mean-stretch\":{\"walks\":<,\"distances\":>},\"worst-stretch\":{\"walk\":<,\"distance\":>},\"dependencies\":$}";
+
+const LOSSES_ROW_BESIDE: &str =
+    "{\"node\":$,\"intervals\":#,\"greatest-row\":#,\"bits\":#,\"mean-stretch\":{\"walks\":<,\"distances\":>},\"worst-stretch\":{\"walk\":<,\"distance\":>},\"dependencies\":$,\"together\":$}";
 
 const LOSSES_CUT: &str = "{\"node\":$,\"disconnected\":true~}";
 
@@ -199,7 +208,8 @@ fn head_form(shape: Shape, line: &[u8]) -> Form
         Shape::Stats => figure_form(line),
         Shape::Compare => plain("{$:{\"nodes\":#,\"links\":#},\"plans\":["),
         Shape::Diff => plain(DIFF_HEAD),
-        Shape::Failures | Shape::Losses => plain(FAILURES_HEAD),
+        Shape::Failures | Shape::Losses if word_at(line, 11).is_empty() => plain(FAILURES_HEAD),
+        Shape::Failures | Shape::Losses => plain(FAILURES_HEAD_BESIDE),
         Shape::Prefixes => plain("{$:$,\"nodes\":#,\"bits\":#,\"entries\":#,\"rows\":["),
         Shape::Ranges => plain("{$:$,\"nodes\":#,\"count\":#,\"rows\":["),
         Shape::Trace | Shape::Restamps => plain("{$:#,\"packets\":["),
@@ -223,10 +233,12 @@ fn row_form(shape: Shape, place: usize, line: &[u8]) -> Form
         Shape::Compare if is(word_at(line, 0), "tables") => plain("$:{~~~\"bits\":#}"),
         Shape::Compare => plain(COMPARED_ROW),
         Shape::Failures if is(word_at(line, 2), "disconnected") => plain(FAILURES_CUT),
-        Shape::Failures => plain(FAILURES_ROW),
+        Shape::Failures if word_at(line, 8).is_empty() => plain(FAILURES_ROW),
+        Shape::Failures => plain(FAILURES_ROW_BESIDE),
         Shape::Losses if is(word_at(line, 1), "disconnected") => plain(LOSSES_CUT),
         Shape::Losses if is(word_at(line, 1), "empty") => plain(LOSSES_EMPTY),
-        Shape::Losses => plain(LOSSES_ROW),
+        Shape::Losses if word_at(line, 7).is_empty() => plain(LOSSES_ROW),
+        Shape::Losses => plain(LOSSES_ROW_BESIDE),
         Shape::Diff => listed(DIFF_ROW, Items::Changes),
         Shape::Prefixes => listed(PREFIXES_ROW, Items::Pairs(PREFIX)),
         Shape::Ranges => listed(RANGES_ROW, Items::Pairs("{\"from\":<,\"to\":>,\"next\":$}")),

@@ -26,7 +26,7 @@ key_order unit other a p b q p_in q_in room le =
     (λ (other_one : b ≢ a). let up : (b + 1) * other ≤ a * other = mul-le-mul_right other (omega (arith, no_more, other_one)) in omega (arith, up, q_in, room))
     (cases_eq b a)) (cases_lt a b)
 
-module _ (net : Topology) (ok : IsTopology net) (s : ℕ) (s_in : s < node_count net) (bits : ℕ) (few : bits ≤ 14) (start K : ℕ → ℕ)
+module _ (net : Topology) (ok : IsTopology net) (s : ℕ) (s_in : s < node_count net) (bits : ℕ) (few : bits ≤ 15) (start K : ℕ → ℕ)
     (eqn : IsLeast net (2 ^ bits) start K) (begun : IsSourceStart net (2 ^ bits) s start)
     (small : (p : ℕ) (hop : Hop) → port_at net s p ≡ Some hop → p < 2 ^ bits) where
   abbrev unit : ℕ
@@ -35,8 +35,8 @@ module _ (net : Topology) (ok : IsTopology net) (s : ℕ) (s_in : s < node_count
   unit_positive : 1 ≤ unit
   unit_positive = pow_mono {i = 0} {j = bits} (omega arith)
 
-  unit_small : unit ≤ 16384
-  unit_small = pow_mono {i = bits} {j = 14} few
+  unit_small : unit ≤ 32768
+  unit_small = pow_mono {i = bits} {j = 15} few
 
   -- a step adds something
   step_positive : (weight : ℕ) → 1 ≤ weight → 1 ≤ weight * unit

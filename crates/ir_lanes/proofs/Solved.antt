@@ -20,7 +20,7 @@ use Rattle.ir_lanes.specs.Outward.{OutwardLanes, AreOutwardLanes, source_at, lan
 use Rattle.ir_lanes.proofs.Keys.{wide_keys, at_source, at_other, many_keys, keys_are_least, keys_connect}
 
 -- in one lane
-module _ (net : Topology) (ok : IsTopology net) (ways : OutwardLanes) (starts : List ℕ) (k : ℕ) (few : ways.bits ≤ 14)
+module _ (net : Topology) (ok : IsTopology net) (ways : OutwardLanes) (starts : List ℕ) (k : ℕ) (few : ways.bits ≤ 15)
     (s_in : source_at ways k < node_count net)
     (begun : IsSourceStart net (2 ^ ways.bits) (source_at ways k) (in_lane starts k))
     (ports : (u : ℕ) → u < node_count net → length (ports_of net u) ≤ 2 ^ ways.bits)
@@ -60,7 +60,7 @@ module _ (net : Topology) (ok : IsTopology net) (ways : OutwardLanes) (starts : 
   port_in : (v : ℕ) → K v % unit < 65536
   port_in v =
       let positive : 1 ≤ unit = pow_mono {i = 0} {j = ways.bits} (omega arith) in
-      let low : unit ≤ 16384 = pow_mono {i = ways.bits} {j = 14} few in
+      let low : unit ≤ 32768 = pow_mono {i = ways.bits} {j = 15} few in
       let lt : K v % unit < unit = mod_below (K v) unit (omega (arith, positive)) in
       omega (arith, lt, low)
 
@@ -114,7 +114,7 @@ module _ (net : Topology) (ok : IsTopology net) (ways : OutwardLanes) (starts : 
       subst (λ (p : ℕ). IsShortestPort net s v p) e is.2
 
 -- in all lanes
-pub lanes_solved : (net : Topology) → IsTopology net → (ways : OutwardLanes) (starts : List ℕ) → ways.bits ≤ 14 → length ways.sources ≡ 16 → AreNear net ways.keys
+pub lanes_solved : (net : Topology) → IsTopology net → (ways : OutwardLanes) (starts : List ℕ) → ways.bits ≤ 15 → length ways.sources ≡ 16 → AreNear net ways.keys
     → ((k : ℕ) → k < 16 → source_at ways k < node_count net)
     → ((k : ℕ) → k < 16 → IsSourceStart net (2 ^ ways.bits) (source_at ways k) (in_lane starts k))
     → ((u : ℕ) → u < node_count net → length (ports_of net u) ≤ 2 ^ ways.bits)

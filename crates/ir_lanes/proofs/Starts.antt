@@ -10,8 +10,8 @@ use Rattle.ir_lanes.specs.Lanes.{in_lane, far, most_added, AreNear, HaveLanes}
 use Rattle.ir_lanes.specs.Equation.{IsSourceStart}
 
 -- what a step adds is small
-pub added_small : (net : Topology) → IsTopology net → (unit : ℕ) → unit ≤ 16384 → (u p : ℕ) (hop : Hop) → port_at net u p ≡ Some hop → hop.weight * unit ≤ 1073725440
-added_small net ok unit few u p hop port = mul-le hop.weight unit 65535 16384 (port_facts net ok u p hop port).bounded few
+pub added_small : (net : Topology) → IsTopology net → (unit : ℕ) → unit ≤ 32768 → (u p : ℕ) (hop : Hop) → port_at net u p ≡ Some hop → hop.weight * unit ≤ 2147450880
+added_small net ok unit few u p hop port = mul-le hop.weight unit 65535 32768 (port_facts net ok u p hop port).bounded few
 
 -- the ports of a node, as they were read, lead to nodes that have lanes
 pub ports_have : (net : Topology) → IsTopology net → (lanes : List ℕ) → AreNear net lanes
@@ -22,7 +22,7 @@ ports_have net ok lanes near u ports is p hop at_p =
     omega (arith, facts.to, near.every)
 
 -- and what a step by one of them adds is not too much
-pub ports_light : (net : Topology) → IsTopology net → (unit : ℕ) → unit ≤ 16384
+pub ports_light : (net : Topology) → IsTopology net → (unit : ℕ) → unit ≤ 32768
     → (u : ℕ) (ports : List Hop) → ports ≡ ports_of net u → (p : ℕ) (hop : Hop) → slice_get ports p ≡ Some hop → hop.weight * unit ≤ most_added
 ports_light net ok unit few u ports is p hop at_p =
     let port : port_at net u p ≡ Some hop = subst (λ (hops : List Hop). slice_get hops p ≡ Some hop) is at_p in
@@ -82,7 +82,7 @@ beginning_none net unit s lane starts near empty = record {
   others = λ k v k_in other. refl;
 }
 
-pub beginning_more : (net : Topology) → IsTopology net → (unit s lane i : ℕ) (hop : Hop) (old starts : List ℕ) → unit ≤ 16384 → i < unit → lane < 16 → port_at net s i ≡ Some hop
+pub beginning_more : (net : Topology) → IsTopology net → (unit s lane i : ℕ) (hop : Hop) (old starts : List ℕ) → unit ≤ 32768 → i < unit → lane < 16 → port_at net s i ≡ Some hop
     → IsBeginning net unit s lane i old starts → IsBeginning net unit s lane (i + 1) old (set starts (hop.node * 16 + lane) (hop.weight * unit + i))
 beginning_more net ok unit s lane i hop old starts few i_in lane_in port before =
     let y : ℕ = hop.node in

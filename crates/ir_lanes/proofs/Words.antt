@@ -29,10 +29,10 @@ pub before_more : (net : Topology) (u : ℕ) → u < node_count net → ports_be
 before_more net u u_in = sum_by_more length net.ports u [] u_in
 
 -- there are not too many ports
-pub before_few : (net : Topology) → IsTopology net → (u : ℕ) → u ≤ node_count net → ports_before net u ≤ u * 16384
+pub before_few : (net : Topology) → IsTopology net → (u : ℕ) → u ≤ node_count net → ports_before net u ≤ u * 32768
 before_few net ok zero u_in = omega arith
 before_few net ok (suc u) u_in =
-    let few : node_count net ≤ 16384 = ok.few_nodes in
+    let few : node_count net ≤ 32768 = ok.few_nodes in
     let more : ports_before net (u + 1) ≡ ports_before net u + length (ports_of net u) = before_more net u (omega (arith, u_in)) in
     let next : suc u ≡ u + 1 = omega arith in
     let same : ports_before net (suc u) ≡ ports_before net (u + 1) = ap (ports_before net) next in

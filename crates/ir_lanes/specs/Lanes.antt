@@ -22,7 +22,7 @@ far = 2147483648
 
 -- the most that a step adds
 abbrev pub most_added : ℕ
-most_added = 1073741824
+most_added = 2147483647
 
 -- each node has its lanes, and none holds more than `far`
 pub record AreNear (net : Topology) (lanes : List ℕ) : Type 0 where

@@ -26,7 +26,7 @@ lane_port ways k v = in_lane ways.keys k v % 2 ^ ways.bits
 -- the weights are the distances from the sixteen nodes, and the ports the least ones that lead nearer
 pub record AreOutwardLanes (net : Topology) (ways : OutwardLanes) : Type 0 where
   pub sixteen : length ways.sources ≡ 16
-  pub few_bits : ways.bits ≤ 14
+  pub few_bits : ways.bits ≤ 15
   pub every : length ways.keys ≡ node_count net * 16
   pub node : (k : ℕ) → k < 16 → source_at ways k < node_count net
   pub weight : (k v : ℕ) → k < 16 → v < node_count net → IsDistance net (source_at ways k) v (lane_weight ways k v)

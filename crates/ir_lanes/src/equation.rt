@@ -35,7 +35,7 @@ pub fn is_least(
 // Whether the equation holds at a node, in all lanes.
 fn is_met(topology: &Topology, unit: u32, starts: &[u32], lanes: &[u32], u: usize) -> bool
     requires node { u < node_count topology.now }
-    requires unit { unit ≤ 16384 }
+    requires unit { unit ≤ 32768 }
     requires starts { AreNear topology.now starts.now }
     requires lanes { AreNear topology.now lanes.now }
     ensures { IsTrue result → IsMet topology.now unit starts.now lanes.now u }
@@ -48,7 +48,7 @@ fn is_met(topology: &Topology, unit: u32, starts: &[u32], lanes: &[u32], u: usiz
 /// Whether the equation holds at all nodes, in all lanes. However the lanes were found: they are compared with what the
 /// ports offer, once each.
 fn are_met(topology: &Topology, unit: u32, starts: &[u32], lanes: &[u32]) -> bool
-    requires unit { unit ≤ 16384 }
+    requires unit { unit ≤ 32768 }
     requires starts { AreNear topology.now starts.now }
     requires lanes { AreNear topology.now lanes.now }
     ensures { IsTrue result → AreMet topology.now unit starts.now lanes.now }
@@ -72,7 +72,7 @@ pub fn settled(
     node: usize,
 ) -> Result<Option<Vec<u32>>, AllocError>
     requires node { node < node_count topology.now }
-    requires unit { unit ≤ 16384 }
+    requires unit { unit ≤ 32768 }
     requires starts { AreNear topology.now starts.now }
     ensures met { IfOk result (λ found. IfSome found (λ lanes. AreMet topology.now unit starts.now lanes.items)) }
     ensures near { IfOk result (λ found. IfSome found (λ lanes. AreNear topology.now lanes.items)) }

@@ -48,7 +48,7 @@ fn are_even(ports: &[Hop], weight: u32) -> bool {
 
 /// The nodes by number.
 pub fn by_number(alloc: Global, nodes: usize) -> Result<Vec<u16>, AllocError>
-    requires { nodes ≤ 16384 }
+    requires { nodes ≤ 32768 }
 {
     let mut order = Vec::with_capacity(alloc, nodes)?;
     for u in 0..nodes {

@@ -115,7 +115,7 @@ impl OutwardLanes {
     fn weight(&self, lane: usize, v: usize) -> u32
         requires sources { lane < length self.now.sources }
         requires keys { v * 16 + lane < length self.now.keys }
-        requires bits { self.now.bits ≤ 14 }
+        requires bits { self.now.bits ≤ 15 }
         ensures { result ≡ lane_weight self.now lane v }
     {
         if v == self.sources[lane] as usize {
@@ -128,7 +128,7 @@ impl OutwardLanes {
     // The port that the way to a node begins with.
     fn port(&self, lane: usize, v: usize) -> u16
         requires keys { v * 16 + lane < length self.now.keys }
-        requires bits { self.now.bits ≤ 14 }
+        requires bits { self.now.bits ≤ 15 }
         ensures { result ≡ lane_port self.now lane v }
     {
         (self.keys[v * LANES + lane] % (1 << self.bits)) as u16
@@ -138,7 +138,7 @@ impl OutwardLanes {
 // The most ports that a node has.
 fn greatest_degree(topology: &Topology) -> usize
     ensures greatest { (u : ℕ) → u < node_count topology.now → length (ports_of topology.now u) ≤ result }
-    ensures few { result ≤ 16384 }
+    ensures few { result ≤ 32768 }
 {
     let mut most = 0;
     for u in 0..topology.nodes() {
@@ -149,23 +149,23 @@ fn greatest_degree(topology: &Topology) -> usize
 
 // How many bits tell so many ports apart.
 fn bits_for(ports: usize) -> u32
-    requires { ports ≤ 16384 }
+    requires { ports ≤ 32768 }
     ensures enough { ports ≤ 2 ^ result }
-    ensures few { result ≤ 14 }
+    ensures few { result ≤ 15 }
 {
-    for bits in 0..14 {
+    for bits in 0..15 {
         if ports <= 1 << bits {
             return bits;
         }
     }
-    14
+    15
 }
 
 // How often a weight counts in a key after which a port has so many bits.
 fn unit_of(bits: u32) -> u32
-    requires { bits ≤ 14 }
+    requires { bits ≤ 15 }
     ensures unit { result ≡ 2 ^ bits }
-    ensures few { result ≤ 16384 }
+    ensures few { result ≤ 32768 }
 {
     1 << bits
 }
@@ -178,7 +178,7 @@ fn source_starts(
     unit: u32,
     sources: &[u16],
 ) -> Result<Vec<u32>, AllocError>
-    requires unit { unit ≤ 16384 }
+    requires unit { unit ≤ 32768 }
     requires sixteen { length sources.now ≡ 16 }
     requires nodes { (k : ℕ) → k < 16 → slice_index sources.now k < node_count topology.now }
     requires ports { (u : ℕ) → u < node_count topology.now → length (ports_of topology.now u) ≤ unit }
@@ -193,7 +193,7 @@ fn source_starts(
 
 // In lanes where nothing is near yet each neighbour of sixteen nodes gets its start.
 fn begin_all(topology: &Topology, unit: u32, starts: &mut [u32], sources: &[u16])
-    requires unit { unit ≤ 16384 }
+    requires unit { unit ≤ 32768 }
     requires sixteen { length sources.now ≡ 16 }
     requires nodes { (k : ℕ) → k < 16 → slice_index sources.now k < node_count topology.now }
     requires ports { (u : ℕ) → u < node_count topology.now → length (ports_of topology.now u) ≤ unit }
@@ -210,7 +210,7 @@ fn begin_all(topology: &Topology, unit: u32, starts: &mut [u32], sources: &[u16]
 
 // In a lane where nothing is near yet each neighbour of a node gets its start.
 fn begin(topology: &Topology, unit: u32, starts: &mut [u32], lane: usize, source: u16)
-    requires unit { unit ≤ 16384 }
+    requires unit { unit ≤ 32768 }
     requires node { source < node_count topology.now }
     requires ports { length (ports_of topology.now source) ≤ unit }
     requires lane { lane < 16 }

@@ -38,7 +38,7 @@ pub fn least_over(ports: &[Hop], unit: u32, lanes: &[u32]) -> u32x16
 // Takes what the ports of a node offer where that is less, and returns whether it was in any lane.
 fn pull(topology: &Topology, unit: u32, lanes: &mut [u32], u: usize) -> bool
     requires node { u < node_count topology.now }
-    requires unit { unit ≤ 16384 }
+    requires unit { unit ≤ 32768 }
     requires lanes { AreNear topology.now lanes.old }
     ensures { AreNear topology.now lanes.new }
 {
@@ -62,7 +62,7 @@ fn sweep(
     list: &[u16],
     forward: bool,
 ) -> usize
-    requires unit { unit ≤ 16384 }
+    requires unit { unit ≤ 32768 }
     requires lanes { AreNear topology.now lanes.old }
     requires waits { length waits.old ≡ node_count topology.now }
     ensures lanes { AreNear topology.now lanes.new }
@@ -105,7 +105,7 @@ fn turns(
     waits: &mut [bool],
     list: &[u16],
 ) -> usize
-    requires unit { unit ≤ 16384 }
+    requires unit { unit ≤ 32768 }
     requires lanes { AreNear topology.now lanes.old }
     requires waits { length waits.old ≡ node_count topology.now }
     ensures lanes { AreNear topology.now lanes.new }
@@ -137,7 +137,7 @@ fn round(
     order: &[u16],
     forward: bool,
 ) -> usize
-    requires unit { unit ≤ 16384 }
+    requires unit { unit ≤ 32768 }
     requires lanes { AreNear topology.now lanes.old }
     requires waits { length waits.old ≡ node_count topology.now }
     ensures lanes { AreNear topology.now lanes.new }
@@ -162,7 +162,7 @@ fn window_of(order: &[u16], k: usize) -> &[u16] {
 // Rounds over the windows of an order, forward and backward by turns, until no node waits, or for the work of
 // `MOST_PASSES`.
 fn rounds(topology: &Topology, unit: u32, lanes: &mut [u32], waits: &mut [bool], order: &[u16])
-    requires unit { unit ≤ 16384 }
+    requires unit { unit ≤ 32768 }
     requires lanes { AreNear topology.now lanes.old }
     requires waits { length waits.old ≡ node_count topology.now }
     ensures { AreNear topology.now lanes.new }
@@ -187,7 +187,7 @@ pub fn settle(
     lanes: &mut [u32],
     node: usize,
 ) -> Result<(), AllocError>
-    requires unit { unit ≤ 16384 }
+    requires unit { unit ≤ 32768 }
     requires node { node < node_count topology.now }
     requires lanes { AreNear topology.now lanes.old }
     ensures { AreNear topology.now lanes.new }

@@ -199,7 +199,7 @@ impl<R: Wait + Drop> ByHand<R> {
     }
 
     /// The version after a link was marked.
-    pub(crate) fn mark(&mut self, link: u16, up: bool) -> Result<u32, Refused> {
+    pub(crate) fn mark(&mut self, link: u32, up: bool) -> Result<u32, Refused> {
         let answer = if up {
             self.parts.controller.up(link)
         } else {

@@ -118,7 +118,7 @@ fn two_threads_see_one_plan(rt: HostRuntime) {
 }
 
 // Marks a link of the path, if its mark changes.
-fn mark<R: Wait + Drop>(writer: &mut BoardWriter<R>, link: u16, up: bool) -> Option<Receipt>
+fn mark<R: Wait + Drop>(writer: &mut BoardWriter<R>, link: u32, up: bool) -> Option<Receipt>
     requires { opening_links (published writer.old) ≡ 2 }
     ensures opening { IsSameOpening (published writer.old) (published writer.new) }
     ensures same { writer_board writer.new ≡ writer_board writer.old }
@@ -242,7 +242,7 @@ fn marked_for_two<R: Wait + Drop>(
     writer: &mut BoardWriter<R>,
     told: &mut BoardReader,
     untold: &mut BoardReader,
-    link: u16,
+    link: u32,
     up: bool,
 ) -> Option<[Board; 3]>
     requires links { opening_links (published writer.old) ≡ 2 }

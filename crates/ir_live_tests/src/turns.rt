@@ -23,7 +23,7 @@ enum Move {
     /// A turn of a node.
     Turn(usize, Turn),
     /// A link is marked as up, or as down.
-    Mark(u16, bool, Result<u32, Refused>),
+    Mark(u32, bool, Result<u32, Refused>),
     /// An install of kind Tree, and why it is refused.
     Install(u16, Option<Refused>),
     /// An install of kind Shortest of which the injector learns, and its epoch.

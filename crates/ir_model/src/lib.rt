@@ -21,10 +21,10 @@ pub use laws::{
 };
 
 /// The most nodes of a graph.
-pub const MAX_NODES: usize = 16_384;
+pub const MAX_NODES: usize = 32_768;
 
 /// The most edges of a graph.
-pub const MAX_EDGES: usize = 65_536;
+pub const MAX_EDGES: usize = 131_072;
 
 /// The most bytes of a node's name.
 pub const MAX_NAME_BYTES: usize = 64;
@@ -56,7 +56,7 @@ pub struct Link {
 #[derive(Clone, Copy, Debug, PartialEq, Eq)]
 pub struct Hop {
     pub node: u16,
-    pub link: u16,
+    pub link: u32,
     pub weight: u32,
 }
 

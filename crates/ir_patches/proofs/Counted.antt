@@ -34,7 +34,7 @@ count_at_most : (b : Bool) → as_count b ≤ 1
 count_at_most true = omega arith
 count_at_most false = omega arith
 
-pub few_more : (counts : Counts) (c : NodeChanges) (u : ℕ) → AreAtMost counts (u * 16384) → length c.removed ≤ 16384 → length c.put ≤ 16384 → AreAtMost (counts_with counts c) ((u + 1) * 16384)
+pub few_more : (counts : Counts) (c : NodeChanges) (u : ℕ) → AreAtMost counts (u * 32768) → length c.removed ≤ 32768 → length c.put ≤ 32768 → AreAtMost (counts_with counts c) ((u + 1) * 32768)
 few_more counts c u few removed put =
     let changed = count_at_most (is_changed c) in
     let relabelled = count_at_most (is_relabelled c) in

@@ -30,7 +30,7 @@ pub fn is_changed(change: &NodeChanges) -> bool
 
 /// Counts what one node more changes.
 pub fn counted(counts: Counts, change: &NodeChanges) -> Counts
-    requires { AreAtMost counts (16384 * 16384) }
+    requires { AreAtMost counts (32768 * 32768) }
     ensures { result ≡ counts_with counts (changes_held change.now) }
 {
     Counts {

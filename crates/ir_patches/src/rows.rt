@@ -54,7 +54,7 @@ fn leads_of(alloc: Global, plan: &Plan, numbers: &[u16], u: u16) -> Result<Vec<L
     ensures leads { IfOk result (λ leads. leads.items ≡ map (lead_of numbers.now plan.now.topology u)
         (row_in plan.now u)) }
     ensures ascending { IfOk result (λ leads. AscendByStart leads.items) }
-    ensures few { IfOk result (λ leads. length leads.items ≤ 16384) }
+    ensures few { IfOk result (λ leads. length leads.items ≤ 32768) }
 {
     let count = plan.row(u).len();
     let mut leads = Vec::with_capacity(alloc, count)?;
@@ -69,7 +69,7 @@ pub fn changes_at(alloc: Global, sides: &TwoSides<'_>, u: u16) -> Result<NodeCha
     requires sides { AreSides sides.now }
     requires node { u < node_count sides.now.new.now.topology }
     ensures changes { IfOk result (λ c. changes_held c ≡ changes_at (plans_of sides.now) u) }
-    ensures few { IfOk result (λ c. (length c.row.removed.items ≤ 16384) × (length c.row.put.items ≤ 16384)) }
+    ensures few { IfOk result (λ c. (length c.row.removed.items ≤ 32768) × (length c.row.put.items ≤ 32768)) }
 {
     let old_numbers = sides.old_numbers.as_slice();
     let new_numbers = sides.new_numbers.as_slice();

@@ -27,7 +27,7 @@ fn push_node(
     requires sides { AreSides sides.now }
     requires node { u < node_count sides.now.new.now.topology }
     ensures change { IfOk result (λ c. changes_held c ≡ changes_at (plans_of sides.now) u) }
-    ensures few { IfOk result (λ c. (length c.row.removed.items ≤ 16384) × (length c.row.put.items ≤ 16384)) }
+    ensures few { IfOk result (λ c. (length c.row.removed.items ≤ 32768) × (length c.row.put.items ≤ 32768)) }
     ensures text { OnOk result (string_bytes text.new ≡ string_bytes text.old ++ change_line (plans_of sides.now) u) }
 {
     let change = changes_at(alloc, sides, u)?;

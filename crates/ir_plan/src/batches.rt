@@ -119,7 +119,7 @@ fn lane_row(
 /// Sixteen numbers of nodes from one on; past the last node, that one again.
 pub fn sixteen_from(alloc: Global, nodes: usize, first: usize) -> Result<Vec<u16>, AllocError>
     requires first { first < nodes }
-    requires few { nodes ≤ 16384 }
+    requires few { nodes ≤ 32768 }
     ensures sixteen { IfOk result (λ sixteen. length sixteen.items ≡ 16) }
     ensures each { IfOk result (λ sixteen. (k : ℕ) → k < 16
         → slice_index sixteen.items k ≡ min (first + k) (nodes - 1)) }

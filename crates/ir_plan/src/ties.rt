@@ -14,8 +14,8 @@ use ir_numbering::Numbering;
 use ir_tables::Topology;
 use std::alloc::{AllocError, Global};
 
-/// The most bytes of marks that are held for a plan: those of 16,384 nodes and 65,536 links.
-const MOST_MARK_BYTES: usize = 268_435_456;
+/// The most bytes of marks that are held for a plan: those of 32,768 nodes and 131,072 links.
+const MOST_MARK_BYTES: usize = 1_073_741_824;
 
 /// The nodes by label, and for each port of each node the marks of those to which it leads nearer.
 #[derive(Drop)]

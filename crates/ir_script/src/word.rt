@@ -38,7 +38,7 @@ pub fn node_of(graph: &Graph, word: &[u8]) -> Result<u16, ScriptFault>
 }
 
 /// The link by which a port of a node leads to another.
-pub fn link_between(topology: &Topology, u: u16, v: u16) -> Result<u16, ScriptFault>
+pub fn link_between(topology: &Topology, u: u16, v: u16) -> Result<u32, ScriptFault>
     requires { u < node_count topology.now }
     ensures { result ≡ link_towards topology.now u v }
 {
@@ -54,7 +54,7 @@ pub fn link_of(
     topology: &Topology,
     first: &[u8],
     second: &[u8],
-) -> Result<u16, ScriptFault>
+) -> Result<u32, ScriptFault>
     requires { topology.now ≡ topology_of_graph graph.now }
     ensures { result ≡ named_link (names graph.now) topology.now first.now second.now }
 {

@@ -126,7 +126,7 @@ column_sum n weight d weights sum to e =
 -- the figures with those of one more destination
 pub one_more : (s : Plan) → IsPlan s → (d : ℕ) → d < node_count s.topology → (before f : Figures) (walks distances : List ℕ) (walks_sum distances_sum : ℕ) → AreFiguresBefore s d before
     → AreWays s.topology (table_port s) d walks → AreDistancesTo s.topology d distances
-    → walks_sum ≡ sum_to (length walks) (at walks) d → walks_sum ≤ 70368744177664 → distances_sum ≡ sum_to (length distances) (at distances) d → distances_sum ≤ 70368744177664
+    → walks_sum ≡ sum_to (length walks) (at walks) d → walks_sum ≤ 140737488355328 → distances_sum ≡ sum_to (length distances) (at distances) d → distances_sum ≤ 140737488355328
     → f.walks ≡ before.walks + walks_sum → f.distances ≡ before.distances + distances_sum
     → IsWorstWithThoseTo d walks distances before.worst f.worst
     → AreFiguresBefore s (d + 1) f

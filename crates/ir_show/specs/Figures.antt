@@ -39,8 +39,8 @@ sum_before n weight count = sum_by (λ d. sum_to n (λ u. weight u d) d) (range_
 
 -- The figures are those of the first so many destinations.
 pub record AreFiguresBefore (plan : Plan) (count : ℕ) (f : Figures) : Type 0 where
-  pub light_walks : f.walks ≤ 70368744177664 * count
-  pub light_distances : f.distances ≤ 70368744177664 * count
+  pub light_walks : f.walks ≤ 140737488355328 * count
+  pub light_distances : f.distances ≤ 140737488355328 * count
   pub reached : (u d : ℕ) → u < node_count plan.topology → d < count → (weight : ℕ) × IsDistance plan.topology u d weight
   pub walks : (walk : ℕ → ℕ → ℕ) → AreWalkWeights plan walk → f.walks ≡ sum_before (node_count plan.topology) walk count
   pub distances : (distance : ℕ → ℕ → ℕ) → ArePlanDistances plan distance → f.distances ≡ sum_before (node_count plan.topology) distance count

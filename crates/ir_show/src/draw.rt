@@ -115,7 +115,7 @@ fn push_node(text: &mut String, graph: &Graph, plan: &Plan, landmarks: &[u16], u
 }
 
 /// Whether the port of an interval of a node's row is by a link.
-fn goes_by(plan: &Plan, u: u16, link: u16, interval: Interval) -> bool
+fn goes_by(plan: &Plan, u: u16, link: u32, interval: Interval) -> bool
     requires node { u < node_count plan.now.topology }
     requires port { interval.port < length (ports_of plan.now.topology u) }
     ensures { result ≡ goes_by plan.now.topology u link (as_interval interval) }
@@ -135,7 +135,7 @@ fn push_separated(text: &mut String, interval: Interval, first: bool) -> TextRes
 }
 
 /// Writes the intervals of a node's row whose port is by a link.
-fn push_intervals(text: &mut String, plan: &Plan, u: u16, link: u16) -> TextResult
+fn push_intervals(text: &mut String, plan: &Plan, u: u16, link: u32) -> TextResult
     requires plan { IsPlan plan.now }
     requires node { u < node_count plan.now.topology }
     ensures { OnOk result (string_bytes text.new ≡ string_bytes text.old ++ intervals_text plan.now u link) }

@@ -82,9 +82,9 @@ fn weight_apart(weights: &[u32], u: usize, d: u16) -> u32
 
 /// The sum of the weights to a node from the others.
 pub fn sum_to(weights: &[u32], d: u16) -> u64
-    requires few { length weights.now ≤ 16384 }
+    requires few { length weights.now ≤ 32768 }
     ensures sum { result ≡ sum_to (length weights.now) (at weights.now) d }
-    ensures light { result ≤ 70368744177664 }
+    ensures light { result ≤ 140737488355328 }
 {
     let mut sum = 0;
     for u in 0..weights.len() {

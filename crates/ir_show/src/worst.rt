@@ -52,7 +52,7 @@ fn worse_of(best: Option<Weighed>, pair: Weighed) -> Option<Weighed>
 /// walks and the distances to it.
 pub fn worst_to(d: u16, walks: &[u32], distances: &[u32], best: Option<Weighed>) -> Option<Weighed>
     requires distances { length distances.now ≡ length walks.now }
-    requires few { length walks.now ≤ 16384 }
+    requires few { length walks.now ≤ 32768 }
     ensures { IsWorstWithThoseTo d walks.now distances.now best result }
 {
     let mut worst = best;

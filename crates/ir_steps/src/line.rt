@@ -50,7 +50,7 @@ fn kind_word(kind: Kind) -> &'static str
 }
 
 /// Writes a word and the ends of a link, each after a space.
-fn push_mark(text: &mut String, net: &Network<'_>, word: &str, link: u16) -> Result<(), AllocError>
+fn push_mark(text: &mut String, net: &Network<'_>, word: &str, link: u32) -> Result<(), AllocError>
     ensures { OnOk result (string_bytes text.new ≡ string_bytes text.old
         ++ flat_map spaced (word.now ∷ link_words (names net.now.graph.now) net.now.topology.now link)) }
 {

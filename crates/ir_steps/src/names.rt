@@ -30,7 +30,7 @@ pub fn push_node(text: &mut String, net: &Network<'_>, node: u16) -> Result<(), 
 }
 
 /// The two ends of a link, the smaller node first.
-fn ends(net: &Network<'_>, link: u16) -> (u16, u16)
+fn ends(net: &Network<'_>, link: u32) -> (u16, u16)
     ensures low { result.0 ≡ (link_at net.now.topology.now link).low }
     ensures high { result.1 ≡ (link_at net.now.topology.now link).high }
 {
@@ -42,7 +42,7 @@ fn ends(net: &Network<'_>, link: u16) -> (u16, u16)
 }
 
 /// The end of a link that is not this node.
-fn other_end(net: &Network<'_>, link: u16, node: u16) -> u16
+fn other_end(net: &Network<'_>, link: u32, node: u16) -> u16
     ensures { result ≡ other_end (link_at net.now.topology.now link) node }
 {
     let (low, high) = ends(net, link);
@@ -50,7 +50,7 @@ fn other_end(net: &Network<'_>, link: u16, node: u16) -> u16
 }
 
 /// Writes the names of the ends of a link, each after a space.
-pub fn push_link(text: &mut String, net: &Network<'_>, link: u16) -> Result<(), AllocError>
+pub fn push_link(text: &mut String, net: &Network<'_>, link: u32) -> Result<(), AllocError>
     ensures { OnOk result (string_bytes text.new ≡ string_bytes text.old
         ++ flat_map spaced (link_words (names net.now.graph.now) net.now.topology.now link)) }
 {

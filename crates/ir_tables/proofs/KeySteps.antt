@@ -161,7 +161,7 @@ pub record Popped (net : Topology) (waiting : ℕ) : Type 0 where
 
 pub popped : (net : Topology) → IsTopology net → (u : ℕ) (keys : List ℕ) (old entries : List KeyEntry) (e : KeyEntry) → IsPermutation old (e ∷ entries) → IsKeying net u NoNode keys old → Popped net e.0
 popped net ok u keys old entries e moved so_far =
-    let few : node_count net ≤ 16384 = ok.few_nodes in
+    let few : node_count net ≤ 32768 = ok.few_nodes in
     let is = All-permutation (IsEntry net) old (e ∷ entries) moved so_far.nodes 0 e (omega arith) in
     record { node_in = omega (arith, few, is.2, is.3); made = omega arith }
 
@@ -173,7 +173,7 @@ popped_fresh net ok u keys old entries e moved so_far = record {
   nodes = all_tail KeyEntry (IsEntry net) e entries (All-permutation (IsEntry net) old (e ∷ entries) moved so_far.nodes);
   pending = λ v v_in out. ⊎_elim (λ spent. inl spent)
       (λ waits. inr (contains_tail KeyEntry e (key_entry (at keys v) v) entries (Contains-permutation old (e ∷ entries) (key_entry (at keys v) v) moved waits)
-      (λ same. out (let few : node_count net ≤ 16384 = ok.few_nodes in let is : key_of (at keys v) v ≡ e.0 = ap (λ (k : KeyEntry). k.0) same in omega (arith, few, v_in, is)))))
+      (λ same. out (let few : node_count net ≤ 32768 = ok.few_nodes in let is : key_of (at keys v) v ≡ e.0 = ap (λ (k : KeyEntry). k.0) same in omega (arith, few, v_in, is)))))
       (so_far.pending v v_in (λ none. none));
 }
 

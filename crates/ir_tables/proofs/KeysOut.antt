@@ -19,7 +19,7 @@ use Rattle.ir_tables.proofs.Settled.{distance_from_settled, settled_within}
 pub port_small : (net : Topology) → IsTopology net → (x p : ℕ) (hop : Hop) → port_at net x p ≡ Some hop → p < 65536
 port_small net ok x p hop port =
     let lt : p < length (ports_of net x) = slice_get_within (ports_of net x) p hop port in
-    let few : node_count net ≤ 16384 = ok.few_nodes in
+    let few : node_count net ≤ 32768 = ok.few_nodes in
     omega (arith, lt, degree_bound net ok x, few)
 
 module _ (net : Topology) (ok : IsTopology net) (u : ℕ) (u_in : u < node_count net) (keys : List ℕ) (are : AreKeys net u keys) where
@@ -135,7 +135,7 @@ module _ (net : Topology) (ok : IsTopology net) (u : ℕ) (u_in : u < node_count
         by_walk : (walk : List ℕ) → IsWalk net v u walk → weight_in v < 4294967295
         by_walk [] is = absurd is
         by_walk (x ∷ rest) is =
-            let few : node_count net ≤ 16384 = ok.few_nodes in
+            let few : node_count net ≤ 32768 = ok.few_nodes in
             settled_within net ok u 4294967295 weight_in weights_settled (omega (arith, few)) weights_reached v rest is.1
 
     key_distance : (v : ℕ) → v < node_count net → IsDistance net u v (weight_in v)

@@ -23,12 +23,12 @@ keys_moved links n before after moved h = record {
 
 -- the key of one link more
 pub keys_more : (links : List Link) (n ends : ℕ) (keys : List ℕ) → n < length links → ends ≡ ends_key (get_or links n past_link).low (get_or links n past_link).high
-    → AreKeysOf links n keys → AreKeysOf links (n + 1) (keys ++ (ends * 65536 + n) ∷ [])
+    → AreKeysOf links n keys → AreKeysOf links (n + 1) (keys ++ (ends * 131072 + n) ∷ [])
 keys_more links n ends keys lt is h =
     let link : Link = get_or links n past_link in
     let key : ℕ = link_key link n in
     let at : slice_get links n ≡ Some link = slice_get-get_or links n past_link lt in
-    subst (λ (k : ℕ). AreKeysOf links (n + 1) (keys ++ k ∷ [])) (sym (ap (λ (e : ℕ). e * 65536 + n) is)) (record {
+    subst (λ (k : ℕ). AreKeysOf links (n + 1) (keys ++ k ∷ [])) (sym (ap (λ (e : ℕ). e * 131072 + n) is)) (record {
       each = λ l other less at_l.
           ⊎_elim (λ (before : l < n). Contains-append_left keys (key ∷ []) (link_key other l) (h.each l other before at_l))
           (λ (here : n ≤ l). let same : l ≡ n = omega (arith, less, here) in
@@ -51,27 +51,27 @@ joined_by_ends u v link low high = grind (arith, nat_tests)
 same_ends : (low high a b : ℕ) → high < 65536 → b < 65536 → ends_key low high ≡ ends_key a b → (low ≡ a) × (high ≡ b)
 same_ends low high a b lt lt' same = (omega (arith, lt, lt', same), omega (arith, lt, lt', same))
 
-module _ (links : List Link) (keys : List ℕ) (few : length links ≤ 65536) (ordered : AreOrdered links) (h : AreLinkKeys links keys)
-    (u v ends place : ℕ) (ends_are : ends ≡ ends_key (min u v) (max u v)) (point : IsPartitionPoint (λ y. ltb y (ends * 65536) ≡ true) (λ y. ltb y (ends * 65536) ≡ false) keys place) where
+module _ (links : List Link) (keys : List ℕ) (few : length links ≤ 131072) (ordered : AreOrdered links) (h : AreLinkKeys links keys)
+    (u v ends place : ℕ) (ends_are : ends ≡ ends_key (min u v) (max u v)) (point : IsPartitionPoint (λ y. ltb y (ends * 131072) ≡ true) (λ y. ltb y (ends * 131072) ≡ false) keys place) where
   -- where a link joins them, the key at the place is none of lesser ends, nor after that link's own
   record IsFound (k : ℕ) : Type 0 where
     pub within : place < length keys
-    pub from : ends * 65536 ≤ get_or keys place 0
-    pub to : get_or keys place 0 ≤ ends * 65536 + k
+    pub from : ends * 131072 ≤ get_or keys place 0
+    pub to : get_or keys place 0 ≤ ends * 131072 + k
 
   found : (k : ℕ) (link : Link) → slice_get links k ≡ Some link → joins_nodes u v link ≡ true → IsFound k
   found k link at joined =
       let same = ends_joined u v link (ordered k link at).0 joined in
-      let key : link_key link k ≡ ends * 65536 + k = omega (arith, same.0, same.1, ends_are) in
+      let key : link_key link k ≡ ends * 131072 + k = omega (arith, same.0, same.1, ends_are) in
       let has : Contains keys (link_key link k) = h.all.each k link (slice_get_within links k link at) at in
       let here : get_or keys has.0 0 ≡ link_key link k = has_at has in
       ⊎_elim
-      (λ (less : has.0 < place). absurd (let below : get_or keys has.0 0 < ends * 65536 = ltb-true (get_or keys has.0 0) (ends * 65536) (point.0 has.0 0 (omega arith) less) in omega (arith, below, here, key)))
+      (λ (less : has.0 < place). absurd (let below : get_or keys has.0 0 < ends * 131072 = ltb-true (get_or keys has.0 0) (ends * 131072) (point.0 has.0 0 (omega arith) less) in omega (arith, below, here, key)))
       (λ (from : place ≤ has.0).
       let within : place < length keys = omega (arith, from, has.1) in
       record {
         within = within;
-        from = ltb-false (get_or keys place 0) (ends * 65536) (point.1 place 0 (omega arith) within);
+        from = ltb-false (get_or keys place 0) (ends * 131072) (point.1 place 0 (omega arith) within);
         to = omega (arith, h.rising place has.0 0 from has.1, here, key);
       })
       (cases_lt has.0 place)
@@ -85,12 +85,12 @@ module _ (links : List Link) (keys : List ℕ) (few : length links ≤ 65536) (o
     | inr none ↦ none
   ]
 
-  pub link_found : u < 65536 → v < 65536 → place < length keys → get_or keys place 0 / 65536 ≡ ends → get_or keys place 0 % 65536 ≡ link_between links u v
+  pub link_found : u < 65536 → v < 65536 → place < length keys → get_or keys place 0 / 131072 ≡ ends → get_or keys place 0 % 131072 ≡ link_between links u v
   link_found ltu ltv within same =
       let is : IsLinkKey links (get_or keys place 0) = All-get_or (IsLinkKey links) keys place 0 within h.all.only in
       let lt : is.l < length links = slice_get_within links is.l is.link is.at in
       let order = ordered is.l is.link is.at in
-      let number : get_or keys place 0 % 65536 ≡ is.l = omega (arith, is.is, lt, few) in
+      let number : get_or keys place 0 % 131072 ≡ is.l = omega (arith, is.is, lt, few) in
       let key : ends_key is.link.low is.link.high ≡ ends = omega (arith, is.is, lt, few, same) in
       let both = same_ends is.link.low is.link.high (min u v) (max u v) order.1 (omega (arith, ltu, ltv)) (key ∙ ends_are) in
       let there : get_or links is.l past_link ≡ is.link = get_or_from_slice_get links is.l is.link past_link is.at in
@@ -98,7 +98,7 @@ module _ (links : List Link) (keys : List ℕ) (few : length links ≤ 65536) (o
       (λ k less. none_joins k (omega (arith, less, lt)) (λ f. omega (arith, f.to, is.is, key, less)))
       (λ _. ap (joins_nodes u v) there ∙ joined_by_ends u v is.link both.0 both.1))
 
-  pub no_link : (place < length keys → get_or keys place 0 / 65536 ≢ ends) → length links ≡ link_between links u v
+  pub no_link : (place < length keys → get_or keys place 0 / 131072 ≢ ends) → length links ≡ link_between links u v
   no_link other = sym (position_or_len_is (joins_nodes u v) links (length links) past_link (omega arith)
       (λ k lt. none_joins k lt (λ f. other f.within (omega (arith, f.from, f.to, lt, few))))
       (λ lt. absurd (omega (arith, lt))))

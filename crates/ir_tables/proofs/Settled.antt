@@ -52,7 +52,7 @@ settled_within net ok d bound f done large reached u (v ∷ rest) way =
 
 -- the weight that stands for no way is above every distance
 pub unreached_large : (net : Topology) → IsTopology net → 65535 * node_count net < unreached
-unreached_large net ok = let few : node_count net ≤ 16384 = ok.few_nodes in omega arith
+unreached_large net ok = let few : node_count net ≤ 32768 = ok.few_nodes in omega arith
 
 -- where relaxation ends with no way found, there is none
 pub no_walk : (net : Topology) → IsTopology net → (d : ℕ) (weights : List ℕ) → IsRelaxed net d weights → (u : ℕ) → at weights u ≡ unreached → (walk : List ℕ) → IsWalk net u d walk → ⊥

@@ -60,7 +60,7 @@ keying_kept net ok u keys before after kept so_far = record {
   where
     is_fresh : (v : ℕ) → v < node_count net → IsFresh keys (key_entry (at keys v) v)
     is_fresh v v_in =
-        let few : node_count net ≤ 16384 = ok.few_nodes in
+        let few : node_count net ≤ 32768 = ok.few_nodes in
         let node : key_of (at keys v) v % 65536 ≡ v = omega (arith, few, v_in) in
         let key : key_of (at keys v) v / 65536 ≡ at keys v = omega (arith, few, v_in) in
         let P : ℕ → Type 0 = λ k. slice_get keys k ≡ Some (key_of (at keys v) v / 65536) in

@@ -33,7 +33,7 @@ ends_key low high = low * 65536 + high
 
 -- the key of the link with number l: its ends, and after them its number
 abbrev pub link_key : Link → ℕ → ℕ
-link_key link l = ends_key link.low link.high * 65536 + l
+link_key link l = ends_key link.low link.high * 131072 + l
 
 -- the key is that of a link
 pub record IsLinkKey (links : List Link) (key : ℕ) : Type 0 where

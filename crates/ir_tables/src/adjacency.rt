@@ -63,7 +63,7 @@ pub fn ports_of(
             let link = link_between(links, keys, u as u16, v as u16);
             ports.push(Hop {
                 node: v as u16,
-                link: link as u16,
+                link: link as u32,
                 weight,
             })?;
         }

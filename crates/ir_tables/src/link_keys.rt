@@ -6,14 +6,17 @@ ghost use Rattle.ir_tables.specs.Numbered.{AreLinkKeys, AreOrdered, ends_key, li
 use ir_model::Link;
 use std::alloc::{AllocError, Global};
 
-/// What a key has for each unit of what is before: more than any node, and than any link's number.
-const UNIT: u64 = 65_536;
+/// What the key of two ends has for each unit of the smaller one: more than any node.
+const NODES: u64 = 65_536;
+
+/// What a link's key has for each unit of the key of its ends: more than any link's number.
+const UNIT: u64 = 131_072;
 
 /// The key of two ends, the smaller first.
 fn ends_key(low: u16, high: u16) -> u64
     ensures { result ≡ ends_key low high }
 {
-    low as u64 * UNIT + high as u64
+    low as u64 * NODES + high as u64
 }
 
 /// The keys of the links, in ascending order. A link's key has its ends, the smaller first, and after them its number.

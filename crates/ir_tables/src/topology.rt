@@ -68,7 +68,7 @@ impl Topology {
     }
 
     /// The two ends of a link, the smaller node first. Condition: the number is below `links()`.
-    pub fn ends(&self, link: u16) -> (u16, u16)
+    pub fn ends(&self, link: u32) -> (u16, u16)
         requires { link < length self.now.links }
         ensures { IsSomeAnd (slice_get self.now.links link) (λ ends. (result.0 ≡ ends.low)
             × (result.1 ≡ ends.high)) }

@@ -13,10 +13,10 @@ use std::test::Fail;
 type Way = (u16, u16, Option<u16>, u32);
 
 /// The number of a link, and its ends.
-type Ends = (u16, (u16, u16));
+type Ends = (u32, (u16, u16));
 
 /// A node, its degree, and the numbers of some of its ports: the node there, the link and its weight.
-type Ports = (u16, usize, &'static [(u16, (u16, u16, u32))]);
+type Ports = (u16, usize, &'static [(u16, (u16, u32, u32))]);
 
 /// A network and a mark for each of its links, and what its topology and its table have: some of the links, of the
 /// ports and of the ways, or why there is no table.

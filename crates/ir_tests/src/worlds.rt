@@ -11,7 +11,7 @@ fn opened(alloc: Global) -> Option<World> {
 }
 
 /// Whether a board has the mark of one link down, and that of another up.
-fn is_down(world: &World, version: usize, link: u16, other: u16) -> bool {
+fn is_down(world: &World, version: usize, link: u32, other: u32) -> bool {
     match world.board_version(version) {
         Some(board) => board.version() as usize == version
             && !board.is_up(link)

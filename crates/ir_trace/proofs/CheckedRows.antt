@@ -139,18 +139,18 @@ module _ (n : ℕ) (plans : List Plan) (over : AreOver n plans) (d : ℕ) where
       let two = and_parts (follows_from (plan_at plans p.epoch) d u p.hops) (are_joined plans d (last_of p.hops) p.epoch parts) one.1 in
       part_led (last_of p.hops) p.epoch parts (λ j q e. is (suc j) q e) two.1 i part at
 
-  short_part : (part : Segment) → IsOverPlan plans d part → IsLed part → nat_le (length part.hops) 16384 ≡ true
+  short_part : (part : Segment) → IsOverPlan plans d part → IsLed part → nat_le (length part.hops) 32768 ≡ true
   short_part part is led =
       let t = plan_at plans part.epoch in
       let plan : IsPlan t = (over part.epoch is.above is.within).0 in
-      le-leb (length part.hops) 16384 (omega (arith, (front t plan d is.dest led.first led.rest led.within led.led).short, plan.topology.few_nodes, ap length led.hops))
+      le-leb (length part.hops) 32768 (omega (arith, (front t plan d is.dest led.first led.rest led.within led.led).short, plan.topology.few_nodes, ap length led.hops))
 
-  pub short_parts : (u above : ℕ) (parts : List Segment) → AreOverPlans plans d parts → are_joined plans d u above parts ≡ true → list_all (λ part. nat_le (length part.hops) 16384) parts ≡ true
+  pub short_parts : (u above : ℕ) (parts : List Segment) → AreOverPlans plans d parts → are_joined plans d u above parts ≡ true → list_all (λ part. nat_le (length part.hops) 32768) parts ≡ true
   short_parts u above parts is h = all parts (λ i part at. short_part part (is i part at) (part_led u above parts is h i part at))
     where
-      all : (ps : List Segment) → ((i : ℕ) (part : Segment) → slice_get ps i ≡ Some part → nat_le (length part.hops) 16384 ≡ true) → list_all (λ part. nat_le (length part.hops) 16384) ps ≡ true
+      all : (ps : List Segment) → ((i : ℕ) (part : Segment) → slice_get ps i ≡ Some part → nat_le (length part.hops) 32768 ≡ true) → list_all (λ part. nat_le (length part.hops) 32768) ps ≡ true
       all [] each = refl
-      all (p ∷ ps) each = and_from (nat_le (length p.hops) 16384) (list_all (λ part. nat_le (length part.hops) 16384) ps) (each 0 p refl) (all ps (λ i part at. each (suc i) part at))
+      all (p ∷ ps) each = and_from (nat_le (length p.hops) 32768) (list_all (λ part. nat_le (length part.hops) 32768) ps) (each 0 p refl) (all ps (λ i part at. each (suc i) part at))
 
   -- ---- the end of the way
 

@@ -211,7 +211,7 @@ module _ (net : Topology) (plans : List Plan) (row : TraceRow) (over : AreOver (
         → found_of net plans row ≡ first_of_four true true arrived weighs
     rest_finds arrived weighs ends weight = computed net plans row over is true true arrived weighs known followed ends weight
 
-    pub rest_short : list_all (λ part. nat_le (length part.hops) 16384) row.parts ≡ true
+    pub rest_short : list_all (λ part. nat_le (length part.hops) 32768) row.parts ≡ true
     rest_short =
         short_parts (node_count net) plans over row.dest row.source 0 row.parts (over_plans (node_count net) plans row.dest row.parts over known is.parts is.dest)
         (and_parts (are_joined plans row.dest row.source 0 row.parts) (goes_on plans row.dest row.fate row.parts) followed).0

@@ -30,7 +30,7 @@ fn has_arrived(last: &Segment, fate: RowFate, dest: u16) -> bool
 }
 
 /// The sum of the weights of segments.
-fn weight_of(topology: &Topology, segments: &[Segment]) -> u32
+fn weight_of(topology: &Topology, segments: &[Segment]) -> u64
     requires few { length segments.now ≤ MAX_SEGMENTS }
     requires segments { list_all (is_part_over (node_count topology.now)) segments.now ≡ true }
     requires short { list_all (λ part. nat_le (length part.hops) MAX_NODES) segments.now ≡ true }
@@ -38,7 +38,7 @@ fn weight_of(topology: &Topology, segments: &[Segment]) -> u32
 {
     let mut sum = 0;
     for segment in segments {
-        sum += walk_weight(topology, segment.hops.as_slice());
+        sum += walk_weight(topology, segment.hops.as_slice()) as u64;
     }
     sum
 }
@@ -61,7 +61,7 @@ fn found_of(topology: &Topology, plans: &[Plan], row: &TraceRow) -> Option<Findi
     if !has_arrived(last, row.fate, row.dest) {
         return Some(FindingKind::NotAtDestination);
     }
-    if weight_of(topology, segments) != row.weight {
+    if weight_of(topology, segments) != row.weight as u64 {
         return Some(FindingKind::BadWeight);
     }
     None

@@ -15,7 +15,7 @@ use ir_tables::Topology;
 use std::alloc::{AllocError, Global};
 
 /// The two ends of a link, the smaller node first.
-fn ends(topology: &Topology, link: u16) -> (u16, u16)
+fn ends(topology: &Topology, link: u32) -> (u16, u16)
     requires { link < length topology.now.links }
     ensures low { result.0 ≡ (link_at topology.now link).low }
     ensures high { result.1 ≡ (link_at topology.now link).high }
@@ -27,7 +27,7 @@ fn ends(topology: &Topology, link: u16) -> (u16, u16)
 }
 
 /// The node that the channel of a link to one of its ends comes from.
-fn channel_start(topology: &Topology, link: u16, to: u16) -> u16
+fn channel_start(topology: &Topology, link: u32, to: u16) -> u16
     requires { FateIsIn topology.now (Fate.Full link to) }
     ensures start { result ≡ other_end (link_at topology.now link) to }
     ensures start_within { result < node_count topology.now }

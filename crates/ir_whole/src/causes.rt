@@ -11,7 +11,7 @@ use ir_trace::judging::last_segment;
 use ir_trace::{RowFate, Trace, TraceRow};
 
 /// Whether a link has these ends, the smaller first.
-fn is_between(topology: &Topology, link: u16, low: u16, high: u16) -> bool
+fn is_between(topology: &Topology, link: u32, low: u16, high: u16) -> bool
     ensures { result ≡ is_between topology.now link low high }
 {
     if topology.links() <= link as usize {

@@ -90,8 +90,8 @@ enum Move {
     Shortest(u16),
     Compact(u16),
     Retire(u32),
-    Down(u16),
-    Up(u16),
+    Down(u32),
+    Up(u32),
 }
 
 /// The event of a move.

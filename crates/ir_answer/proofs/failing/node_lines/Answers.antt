@@ -21,9 +21,9 @@ of_ok (Err e) P R h f = tt
 pub returns : goal.returns
 returns g c =
     let s = c.args.plan.now in
-    let P : ℕ → Result NodeText AllocError → Type 0 = λ k one. IfOk one (λ (made : NodeText). IsNodeLine c.args.graph.now s c.args.kind c.args.order k (bytes_made made)) in
+    let P : ℕ → Result NodeText AllocError → Type 0 = λ k one. IfOk one (λ (made : NodeText). IsNodeLine c.args.graph.now s c.args.kind c.args.order c.args.other.now k (bytes_made made)) in
     of_ok c.node_texts.result _ _ c.node_texts.ensures
-    (λ v zipped. texts_made (λ k one. IsNodeLine c.args.graph.now s c.args.kind c.args.order k (bytes_made one)) 0 _ v.items
+    (λ v zipped. texts_made (λ k one. IsNodeLine c.args.graph.now s c.args.kind c.args.order c.args.other.now k (bytes_made one)) 0 _ v.items
     (subst (λ (n : ℕ). AllZip P (range_with_len 0 n) (map Ok v.items)) c.nodes.ensures.count (by_closure NodeText _ _ (same-1-1 c.node_texts-arg-2-1.given) _ _ _ zipped)))
 
 pub node_texts-requires-clause-each : goal.node_texts-requires-clause-each
@@ -31,4 +31,4 @@ node_texts-requires-clause-each g c =
     let graph = c.args.graph.now in
     let count : node_count c.args.plan.now.topology ≡ length graph = ap node_count c.requires.over ∙ length-map graph _ in
     let nodes = c.nodes.ensures.count in
-    of_closure NodeText _ _ (same-1-1 c.node_texts-arg-2-1.given) _ c.nodes.result (λ k lt. (omega (arith, lt, count, nodes), c.requires.read, c.requires.over))
+    of_closure NodeText _ _ (same-1-1 c.node_texts-arg-2-1.given) _ c.nodes.result (λ k lt. (omega (arith, lt, count, nodes), c.requires.read, c.requires.over, c.requires.other))

@@ -15,7 +15,7 @@ pub overflow_mul-result : goal.overflow_mul-result
 overflow_mul-result c =
     let s = c.args.plan.now in
     let few = s.topology in
-    let starts : c.len-starts.result ≤ 16384 = omega (arith, c.len-starts.ensures.len ∙ ap length c.row.ensures.row, row_short s c.requires.plan c.args.u c.requires.node) in
+    let starts : c.len-starts.result ≤ 32768 = omega (arith, c.len-starts.ensures.len ∙ ap length c.row.ensures.row, row_short s c.requires.plan c.args.u c.requires.node) in
     let label : c.args.label ≤ 16 = narrow (node_count s.topology) c.args.label (omega (arith, c.requires.plan.topology.few_nodes)) c.requires.label in
     let degree : c.degree.result ≤ 65536 = omega (arith, c.degree.ensures, ap (λ (x : Topology). length (ports_of x c.args.u)) c.topology.ensures, degree_le s.topology c.requires.plan.topology c.args.u, c.requires.plan.topology.few_nodes) in
     let port : c.width-port.result ≤ 16 = narrow c.degree.result c.width-port.result degree c.width-port.ensures in
@@ -24,7 +24,7 @@ overflow_mul-result c =
 pub overflow_add-result-2 : goal.overflow_add-result-2
 overflow_add-result-2 c =
     let s = c.args.plan.now in
-    let starts : c.len-starts.result ≤ 16384 = omega (arith, c.len-starts.ensures.len ∙ ap length c.row.ensures.row, row_short s c.requires.plan c.args.u c.requires.node) in
+    let starts : c.len-starts.result ≤ 32768 = omega (arith, c.len-starts.ensures.len ∙ ap length c.row.ensures.row, row_short s c.requires.plan c.args.u c.requires.node) in
     let label : c.args.label ≤ 16 = narrow (node_count s.topology) c.args.label (omega (arith, c.requires.plan.topology.few_nodes)) c.requires.label in
     let degree : c.degree.result ≤ 65536 = omega (arith, c.degree.ensures, ap (λ (x : Topology). length (ports_of x c.args.u)) c.topology.ensures, degree_le s.topology c.requires.plan.topology c.args.u, c.requires.plan.topology.few_nodes) in
     let port : c.width-port.result ≤ 16 = narrow c.degree.result c.width-port.result degree c.width-port.ensures in
@@ -33,11 +33,11 @@ overflow_add-result-2 c =
 pub returns-clause-light : goal.returns-clause-light
 returns-clause-light c =
     let s = c.args.plan.now in
-    let starts : c.len-starts.result ≤ 16384 = omega (arith, c.len-starts.ensures.len ∙ ap length c.row.ensures.row, row_short s c.requires.plan c.args.u c.requires.node) in
+    let starts : c.len-starts.result ≤ 32768 = omega (arith, c.len-starts.ensures.len ∙ ap length c.row.ensures.row, row_short s c.requires.plan c.args.u c.requires.node) in
     let label : c.args.label ≤ 16 = narrow (node_count s.topology) c.args.label (omega (arith, c.requires.plan.topology.few_nodes)) c.requires.label in
     let degree : c.degree.result ≤ 65536 = omega (arith, c.degree.ensures, ap (λ (x : Topology). length (ports_of x c.args.u)) c.topology.ensures, degree_le s.topology c.requires.plan.topology c.args.u, c.requires.plan.topology.few_nodes) in
     let port : c.width-port.result ≤ 16 = narrow c.degree.result c.width-port.result degree c.width-port.ensures in
-    let nodes : c.nodes-nodes.result ≤ 16384 = omega (arith, c.nodes-nodes.ensures.count, c.requires.plan.topology.few_nodes) in (
+    let nodes : c.nodes-nodes.result ≤ 32768 = omega (arith, c.nodes-nodes.ensures.count, c.requires.plan.topology.few_nodes) in (
       omega (arith, light_row c.len-starts.result c.args.label c.width-port.result starts label port, c.requires.light.0),
       omega (arith, light_table c.nodes-nodes.result c.width-port.result nodes port, c.requires.light.1),
     )

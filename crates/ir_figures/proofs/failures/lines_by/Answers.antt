@@ -22,14 +22,14 @@ pub returns : goal.returns
 returns g c =
     let s = c.args.plan.now in
     let nodes = names c.args.graph.now in
-    let P : ℕ → Result NodeText AllocError → Type 0 = λ l one. IfOk one (λ (made : NodeText). IsLinkLine nodes s c.args.order l (bytes_made made)) in
+    let P : ℕ → Result NodeText AllocError → Type 0 = λ l one. IfOk one (λ (made : NodeText). IsLinkLine nodes s c.args.order c.args.other.now l (bytes_made made)) in
     let count : c.links.result ≡ length s.topology.links = c.links.ensures.count ∙ ap (λ (net : Topology). length net.links) c.topology.ensures in
     of_ok c.node_texts.result _ _ c.node_texts.ensures
-    (λ v zipped. texts_made (λ l one. IsLinkLine nodes s c.args.order l (bytes_made one)) 0 _ v.items
+    (λ v zipped. texts_made (λ l one. IsLinkLine nodes s c.args.order c.args.other.now l (bytes_made one)) 0 _ v.items
     (subst (λ (n : ℕ). AllZip P (range_with_len 0 n) (map Ok v.items)) count (by_closure NodeText _ _ (same-1-1 c.node_texts-arg-2-1.given) _ _ _ zipped)))
 
 pub node_texts-requires-clause-each : goal.node_texts-requires-clause-each
 node_texts-requires-clause-each g c =
     let s = c.args.plan.now in
     let count : c.links.result ≡ length s.topology.links = c.links.ensures.count ∙ ap (λ (net : Topology). length net.links) c.topology.ensures in
-    of_closure NodeText _ _ (same-1-1 c.node_texts-arg-2-1.given) _ c.links.result (λ l lt. (omega (arith, lt, count), c.requires))
+    of_closure NodeText _ _ (same-1-1 c.node_texts-arg-2-1.given) _ c.links.result (λ l lt. (omega (arith, lt, count), c.requires.nodes, c.requires.over))

@@ -18,7 +18,7 @@ returns g c =
       words = told.0;
       figures = told.1;
       lines = map bytes_made made;
-      each = bytes_zipped (IsLinkLine nodes s c.args.order) (range_with_len 0 (length s.topology.links)) made c.in_ok-lines.ensures;
+      each = bytes_zipped (IsLinkLine nodes s c.args.order c.args.other.now) (range_with_len 0 (length s.topology.links)) made c.in_ok-lines.ensures;
       whole =
           told.2
           ∙ ap (λ (texts : List NodeText). line_text (failures_head (codes "links") s told.0) ++ flat_map bytes_made texts) c.as_slice.ensures.value

@@ -1,4 +1,4 @@
-use Rattle.std.proofs.Common.{◌≡◌, ◌∙◌, ◌++◌, ◌<◌, ◌∷◌, [], List, ℕ, ap, refl, length, sym, subst, string_bytes, true, arith}
+use Rattle.std.proofs.Common.{◌≡◌, ◌∙◌, ◌++◌, ◌<◌, ◌∷◌, [], List, ℕ, ap, refl, length, sym, subst, string_bytes, true, arith, Some}
 use Rattle.std.proofs.lemmas.List.{length-map}
 use Rattle.std.proofs.lemmas.Option.{slice_get-get_or}
 use Rattle.ir_graph.proofs.Places.{has_node_at}
@@ -10,8 +10,8 @@ use Rattle.ir_plan.specs.Building.{Labelling, MayLabel, HasRoot, labelling_of}
 use Rattle.ir_trace.specs.Written.{name_at}
 use Rattle.ir_show.specs.Words.{line_text}
 use Rattle.ir_figures.specs.Failures.{network_without, labelling_without}
-use Rattle.ir_figures.proofs.FailureLines.{one_told, words_over}
-use Rattle.ir_figures.proofs.NodesLeft.{may_label_without, has_root_without}
+use Rattle.ir_figures.proofs.FailureLines.{one_told, words_over, other_numbers}
+use Rattle.ir_figures.proofs.NodesLeft.{count_left, may_label_without, has_root_without}
 use Rattle.ir_figures.proofs.node_failures.node_failure_line.Goals as goal
 
 pub network_without-requires : goal.network_without-requires
@@ -49,6 +49,15 @@ push_plan-requires-clause-root c =
     (subst (λ (l : Labelling). HasRoot (network_without g c.args.k) l) (sym c.in_ok-labels.ensures)
     (has_root_without c.args.kind s c.args.order g c.args.k c.invariant.ensures.plan same c.requires.node c.invariant-2.ensures.graph (omega (arith, some, ap node_count over))))
 
+pub push_plan-requires-clause-numbers : goal.push_plan-requires-clause-numbers
+push_plan-requires-clause-numbers c =
+    let g = c.args.graph.now in
+    let s = c.args.plan.now in
+    let over : c.in_ok-left.left ≡ network_without g c.args.k =
+    c.in_ok-left.ensures ∙ ap (λ (h : Adjacency). topology_of_graph (without_node h c.name_of-name.result.now)) c.requires.copied ∙ ap (λ (y : Name). topology_of_graph (without_node g y)) c.name_of-name.ensures in
+    let same : node_count s.topology ≡ length g = ap node_count c.requires.over ∙ length-map g _ in
+    other_numbers c.args.other.now s.topology c.args.k (node_count c.in_ok-left.left) c.requires.other (omega (arith, ap node_count over, count_left g c.args.k c.invariant-2.ensures.graph c.requires.node, same))
+
 pub returns : goal.returns
 returns c =
     let g = c.args.graph.now in
@@ -59,7 +68,7 @@ returns c =
     let old = string_bytes c.new-text.result in
     record {
       words = told.0;
-      left = words_over (network_without g c.args.k) c.in_ok-left.left c.args.kind c.args.kind (labelling_without c.args.kind s c.args.order c.args.k) (labelling_of c.in_ok-labels.labels) told.0 over refl c.in_ok-labels.ensures told.1;
+      left = words_over c.args.other.now (Some c.args.k) (network_without g c.args.k) c.in_ok-left.left c.args.kind c.args.kind (labelling_without c.args.kind s c.args.order c.args.k) (labelling_of c.in_ok-labels.labels) told.0 over refl c.in_ok-labels.ensures told.1;
       whole =
           one_told old (string_bytes c.push_str.new.self) (string_bytes c.push_plan.new.text) (string_bytes c.push_str-2.new.self) (name_at (names g) c.args.k) told.0
           (c.in_ok-push_str.ensures.bytes ∙ ap (λ (t : List ℕ). old ++ t) c.name_of-name.ensures)

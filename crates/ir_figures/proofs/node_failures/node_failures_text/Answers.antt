@@ -16,7 +16,7 @@ returns c =
       words = told.0;
       figures = told.1;
       lines = map bytes_made made;
-      each = bytes_zipped (IsNodeLine c.args.graph.now s c.args.kind c.args.order) (range_with_len 0 (node_count s.topology)) made c.requires.lines;
+      each = bytes_zipped (IsNodeLine c.args.graph.now s c.args.kind c.args.order c.args.other.now) (range_with_len 0 (node_count s.topology)) made c.requires.lines;
       whole = told.2 ∙ ap (λ (t : List ℕ). line_text (failures_head (codes "nodes") s told.0) ++ t) (bytes_joined made);
     })
     c.failures_text.ensures

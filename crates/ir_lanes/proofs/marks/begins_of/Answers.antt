@@ -31,7 +31,7 @@ loop-u-preserved c =
     let pushed : c.push.new.self.items ≡ c.loop-u.begins.items ++ c.loop-u.begin ∷ [] = search rules in
     let u_in : u < node_count net = omega (arith, c.loop-u-test.true, c.nodes-nodes.ensures.count) in
     let ok = c.nodes-nodes.ensures.topology in
-    let few : node_count net ≤ 16384 = ok.few_nodes in
+    let few : node_count net ≤ 32768 = ok.few_nodes in
     let more = before_more net u u_in in
     let is = ap length c.ports.ensures in
     rw pushed (record {

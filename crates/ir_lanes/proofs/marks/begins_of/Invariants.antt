@@ -7,5 +7,5 @@ invariant-loop-u l = record {
   every : length l.begins.items ≡ l.u;
   each : (v : ℕ) → v < l.u → slice_index l.begins.items v ≡ ports_before l.topology v;
   here : l.begin ≡ ports_before l.topology l.u;
-  few : l.begin ≤ l.u * 16384;
+  few : l.begin ≤ l.u * 32768;
 }

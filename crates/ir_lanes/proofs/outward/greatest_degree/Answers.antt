@@ -9,7 +9,7 @@ loop-u-preserved c =
     let net = c.args.topology.now in
     let ok = c.nodes-u-end.ensures.topology in
     let own = degree_bound net ok c.loop-u.u in
-    let few : node_count net ≤ 16384 = ok.few_nodes in
+    let few : node_count net ≤ 32768 = ok.few_nodes in
     let is = ap length c.ports.ensures in
     record {
       greatest = λ v lt. ⊎_elim

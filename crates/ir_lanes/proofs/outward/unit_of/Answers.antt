@@ -8,5 +8,5 @@ returns-clause-unit c = one_shl c.args.bits 32 (omega (arith, c.requires))
 
 pub returns-clause-few : goal.returns-clause-few
 returns-clause-few c =
-    let up : 2 ^ c.args.bits ≤ 2 ^ 14 = pow_mono {i = c.args.bits} {j = 14} c.requires in
+    let up : 2 ^ c.args.bits ≤ 2 ^ 15 = pow_mono {i = c.args.bits} {j = 15} c.requires in
     omega (arith, up, one_shl c.args.bits 32 (omega (arith, c.requires)))

@@ -33,6 +33,6 @@ loop-u-preserved c =
     let more : c.counted-counts.result ≡ counts_with c.loop-u.counts held = c.counted-counts.ensures in
     record {
       counts = more ∙ ap (counts_with c.loop-u.counts) change.change ∙ ap (λ (n : Counts). counts_with n (changes_at p u)) inv.counts ∙ counts_more p u;
-      few = subst (λ (n : Counts). AreAtMost n ((u + 1) * 16384)) (sym more) (few_more c.loop-u.counts held u inv.few change.few.0 change.few.1);
+      few = subst (λ (n : Counts). AreAtMost n ((u + 1) * 32768)) (sym more) (few_more c.loop-u.counts held u inv.few change.few.0 change.few.1);
       text = change.text ∙ ap (λ (t : List ℕ). t ++ change_line p u) inv.text ∙ nodes_more (change_line p) u (string_bytes c.args.text.now);
     }

@@ -8,5 +8,5 @@ use Rattle.ir_show.proofs.span.lines_alone.Given as goal
 abbrev pub invariant-loop-u : goal.invariant-loop-u
 invariant-loop-u l = record {
   so : (plan : Plan) → IsPlanOver l.topology l.kind l.numbering plan → AreSoFar (names l.graph) plan l.fn.span.0 l.u (string_bytes l.text) l.starts;
-  few : l.starts ≤ (l.u - l.fn.span.0) * 16384;
+  few : l.starts ≤ (l.u - l.fn.span.0) * 32768;
 }

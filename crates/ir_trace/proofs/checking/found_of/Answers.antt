@@ -16,7 +16,7 @@ pub weight_of-requires-clause-short : goal.weight_of-requires-clause-short
 weight_of-requires-clause-short c =
     let parts = c.as_slice-segments.ensures.value ∙ ap (λ (r : TraceRow). r.parts) c.row.view_is in
     let known : are_known (length c.args.plans.now) c.args.row.now.parts ≡ true = ap (are_known (length c.args.plans.now)) (sym parts) ∙ sym c.if-not-are_known.ensures in
-    ap (list_all (λ (part : Segment). nat_le (length part.hops) 16384)) parts ∙ rest_short c.args.topology.now c.args.plans.now c.args.row.now c.requires.over c.requires.row known c.in_default.ensures
+    ap (list_all (λ (part : Segment). nat_le (length part.hops) 32768)) parts ∙ rest_short c.args.topology.now c.args.plans.now c.args.row.now c.requires.over c.requires.row known c.in_default.ensures
 
 pub returns-then-not-has_arrived : goal.returns-then-not-has_arrived
 returns-then-not-has_arrived c =

@@ -5,5 +5,5 @@ use Rattle.ir_trace.proofs.checking.weight_of.Given as goal
 abbrev pub invariant-loop-segment : goal.invariant-loop-segment
 invariant-loop-segment l = record {
   weight : l.sum ≡ segments_weight l.topology (take l.segment-index l.segments);
-  light : l.sum ≤ 1073725440 * l.segment-index;
+  light : l.sum ≤ 2147450880 * l.segment-index;
 }

@@ -16,7 +16,7 @@ overflow_add-place c =
     let inside : c.self.inside.begins.items ≡ c.args.self.now.begins = ap (λ (m : PortMarks). m.begins) c.self.view_is in
     let read = begin_read net c.args.order.now c.args.self.now c.requires.marks u c.requires.node c.self.inside.begins.items inside c.index.result.now c.index.ensures in
     let ok = c.invariant.ensures.topology in
-    let few : node_count net ≤ 16384 = ok.few_nodes in
+    let few : node_count net ≤ 32768 = ok.few_nodes in
     let before = before_few net ok u (omega (arith, c.requires.node)) in
     record { fits = omega (arith, read, before, few, degree_bound net ok u, c.requires.node, c.requires.port) }
 

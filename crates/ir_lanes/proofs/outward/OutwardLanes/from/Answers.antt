@@ -7,7 +7,7 @@ use Rattle.ir_lanes.proofs.Solved.{lanes_solved}
 use Rattle.ir_lanes.proofs.outward.OutwardLanes.from.Goals as goal
 
 -- what the calls give
-solved_here : (net : Topology) → IsTopology net → (given sources keys starts read : List ℕ) (bits unit degree : ℕ) → bits ≤ 14 → unit ≡ 2 ^ bits → sources ≡ given → read ≡ starts
+solved_here : (net : Topology) → IsTopology net → (given sources keys starts read : List ℕ) (bits unit degree : ℕ) → bits ≤ 15 → unit ≡ 2 ^ bits → sources ≡ given → read ≡ starts
     → length given ≡ 16 → ((k : ℕ) → k < 16 → slice_index given k < node_count net) → AreNear net keys
     → ((k : ℕ) → k < 16 → IsSourceStart net unit (slice_index given k) (in_lane starts k))
     → ((u : ℕ) → u < node_count net → length (ports_of net u) ≤ degree) → degree ≤ 2 ^ bits
