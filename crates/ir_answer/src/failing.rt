@@ -72,8 +72,8 @@ fn node_lines(
     )
 }
 
-/// The text of the figures of a plan, and of those without each node, beside another plan if there is one. The graph was
-/// read from the text of this format. Refused for memory alone.
+/// The text of the figures of a plan, and of those without each node, beside another plan if there is one. The graph
+/// was read from the text of this format. Refused for memory alone.
 pub fn node_failures(
     crew: &impl Crew,
     alloc: Global,

@@ -42,9 +42,9 @@ pub enum Show {
     /// The figures, and the links that wait for each other where packets of a second plan are under way too, which is
     /// of this kind and numbered depth first from this node.
     Beside(Kind, u16),
-    /// The figures, and those without each link: of plans labelled in this order, or where there is none with the labels
-    /// of the plan of the whole network. Each beside a second plan over the whole network, if there is one, of this kind
-    /// and numbered depth first from this node.
+    /// The figures, and those without each link: of plans labelled in this order, or where there is none with the
+    /// labels of the plan of the whole network. Each beside a second plan over the whole network, if there is one, of
+    /// this kind and numbered depth first from this node.
     Each(Option<LabelOrder>, Option<(Kind, u16)>),
     /// The figures, and those without each node: of plans of this kind, labelled and beside a second plan in the same
     /// way.
@@ -600,8 +600,8 @@ fn show_plan(
     }
 }
 
-/// What figures without each node are asked for: of plans of which kind, labelled in which order, and beside which second
-/// plan.
+/// What figures without each node are asked for: of plans of which kind, labelled in which order, and beside which
+/// second plan.
 type NodesAsked = (Kind, Option<LabelOrder>, Option<(Kind, u16)>);
 
 /// The figures without each node, if they are what is shown.

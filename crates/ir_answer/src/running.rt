@@ -214,8 +214,9 @@ pub fn run_check<R: Reader, W: Writer, F: Writer>(
 /// any.
 ///
 /// `plan`, `sim` and `check` are `run_plan`, `run_sim` and `run_check`. The other subcommands of a plan read what
-/// `plan` does, `compare` a topology alone, and `diff` two topologies; each writes the one text that it shows, or its JSON where the words
-/// ask for that. `live` wants threads of nodes: its inputs are read, and it is reported as `no thread`.
+/// `plan` does, `compare` a topology alone, and `diff` two topologies; each writes the one text that it shows, or its
+/// JSON where the words ask for that. `live` wants threads of nodes: its inputs are read, and it is reported as
+/// `no thread`.
 ///
 /// Conditions: an order is of no plan of kind Tree; the inputs are a reader for each text, or for
 /// `words.is_one_input()` one of all texts, which the first lines that are exactly `%%` cut. `status_of` has the exit

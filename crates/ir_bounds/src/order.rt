@@ -69,10 +69,12 @@ pub fn most_linked(
 // mark.
 fn next_linked(topology: &Topology, marks: &[bool]) -> Option<u16>
     requires { length marks.now ≡ node_count topology.now }
-    ensures none { result ≡ None → (v : ℕ) → v < node_count topology.now → slice_index_or marks.now v false ≡ true }
+    ensures none { result ≡ None → (v : ℕ) → v < node_count topology.now
+        → slice_index_or marks.now v false ≡ true }
     ensures node { IfSome result (λ x. x < node_count topology.now) }
     ensures free { IfSome result (λ x. slice_index_or marks.now x false ≡ false) }
-    ensures most { IfSome result (λ x. (v : ℕ) → v < node_count topology.now → slice_index_or marks.now v false ≡ false
+    ensures most { IfSome result (λ x. (v : ℕ) → v < node_count topology.now
+        → slice_index_or marks.now v false ≡ false
         → (length (ports_of topology.now v) < length (ports_of topology.now x))
         ⊎ ((length (ports_of topology.now v) ≡ length (ports_of topology.now x)) × (x ≤ v))) }
 {

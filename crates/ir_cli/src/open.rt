@@ -48,8 +48,8 @@ pub fn no_root(graph: &Graph) -> OpenError
     }
 }
 
-/// The order in which the plans of a run are labelled. That of a file is no run's, and given as depth first. One that is
-/// kept is at first a tour's.
+/// The order in which the plans of a run are labelled. That of a file is no run's, and given as depth first. One that
+/// is kept is at first a tour's.
 pub fn label_order(numbering: &NumberingChoice) -> LabelOrder
     ensures { result ≡ label_order numbering.now }
 {

@@ -71,7 +71,8 @@ pub fn is_by_node(found: &ArgMatches<'_>) -> bool
 
 /// The number of an option, if it is one in this range, and none where the option is not given.
 fn number_in(found: &ArgMatches<'_>, name: &str, least: usize, most: usize) -> Option<Option<usize>>
-    ensures { MatchOption result ((n : Option ℕ) → IsNumber name.now (rows_of (found_of found.now)) least most n → ⊥)
+    ensures { MatchOption result ((n : Option ℕ)
+        → IsNumber name.now (rows_of (found_of found.now)) least most n → ⊥)
         (λ n. IsNumber name.now (rows_of (found_of found.now)) least most n) }
 {
     let Some(_) = typed(found, name) else {
@@ -93,7 +94,8 @@ fn number_or(
     most: usize,
     other: usize,
 ) -> Option<usize>
-    ensures { MatchOption result ((n : ℕ) → IsNumberElse name.now (rows_of (found_of found.now)) least most other n → ⊥)
+    ensures { MatchOption result ((n : ℕ)
+        → IsNumberElse name.now (rows_of (found_of found.now)) least most other n → ⊥)
         (λ n. IsNumberElse name.now (rows_of (found_of found.now)) least most other n) }
 {
     let number = number_in(found, name, least, most)?;
@@ -217,7 +219,8 @@ fn nodes_of(found: &ArgMatches<'_>) -> Option<Span>
 
 /// The format that is named, else that of the file of a topology, by the name of its place.
 fn format_of(found: &ArgMatches<'_>, place: &str) -> Option<Format>
-    ensures { MatchOption result ((format : Format) → IsFormat place.now format (rows_of (found_of found.now)) → ⊥)
+    ensures { MatchOption result ((format : Format) → IsFormat place.now format (rows_of (found_of found.now))
+        → ⊥)
         (λ format. IsFormat place.now format (rows_of (found_of found.now))) }
 {
     match typed(found, "format") {

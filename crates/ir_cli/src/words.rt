@@ -345,7 +345,8 @@ fn words_named(alloc: Global, name: &str, found: &ArgMatches<'_>) -> Result<Word
 fn fault_met(called: Called, found: &ArgMatches<'_>, words: &Words) -> Option<&'static str>
     ensures { MatchOption result
         (HasWhatIsAsked (rows_of (found_of found.now)) words.now × AreTaken words.now × FitsItsKind words.now)
-        (λ _. HasWhatIsAsked (rows_of (found_of found.now)) words.now → AreTaken words.now → FitsItsKind words.now → ⊥) }
+        (λ _. HasWhatIsAsked (rows_of (found_of found.now)) words.now → AreTaken words.now
+        → FitsItsKind words.now → ⊥) }
 {
     match asked_fault(found, words) {
         Some(fault) => Some(fault),

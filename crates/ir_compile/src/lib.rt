@@ -152,7 +152,8 @@ fn is_change(own: u16, d: u16, port: u16, last: u16) -> bool
 fn put(words: &mut [u32], count: usize, word: u32, is_kept: bool) -> usize
     requires { count < length words.old }
     ensures length { length words.new ≡ length words.old }
-    ensures kept { IsTrue is_kept → (result ≡ count + 1) × (take result words.new ≡ take count words.old ++ word ∷ []) }
+    ensures kept { IsTrue is_kept → (result ≡ count + 1)
+        × (take result words.new ≡ take count words.old ++ word ∷ []) }
     ensures left { (IsTrue is_kept → ⊥) → (result ≡ count) × (take result words.new ≡ take count words.old) }
 {
     words[count] = word;

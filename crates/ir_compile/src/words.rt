@@ -235,7 +235,8 @@ fn extended(twice: &[u32], limit: usize, back: u32, end: usize, front: u32) -> (
     requires room { limit ≤ length twice.now }
     ensures further { end ≤ result.0 }
     ensures within { result.0 ≤ limit }
-    ensures common { (m : ℕ) → m ≤ end → AreCommon twice.now m end front → AreCommon twice.now m result.0 result.1 }
+    ensures common { (m : ℕ) → m ≤ end → AreCommon twice.now m end front
+        → AreCommon twice.now m result.0 result.1 }
     ensures some { 0 < bit_and back front → 0 < bit_and back result.1 }
     ensures stops { result.0 < limit → bit_and (bit_and back result.1) (slice_index twice.now result.0) ≡ 0 }
 {

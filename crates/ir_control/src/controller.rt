@@ -211,8 +211,8 @@ impl<R: Wait + Drop> Controller<R> {
     }
 
     /// Builds a plan of this kind and root over the links that are up and heeded, labelled in the net's order or, where
-    /// the net keeps it, in that of the current epoch. Registers it in the next cell, and makes it the current epoch. The
-    /// receipt's stamp knows that plan.
+    /// the net keeps it, in that of the current epoch. Registers it in the next cell, and makes it the current epoch.
+    /// The receipt's stamp knows that plan.
     ///
     /// Refused are, in this order: a root that is no node, no cell left, a change too many, some node without a walk to
     /// some node, want of memory. After `Used`, or after want of memory once the plan was registered, the cell is used

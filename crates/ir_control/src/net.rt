@@ -95,7 +95,8 @@ fn registered(
 ) -> Result<(Registry, Stamp), OpenError>
     requires { opening.now.root < node_count opening.now.topology }
     ensures made { IfOk result (λ r. IsOf r.0 r.1 × (r.1.epoch ≡ 1)
-        × IsMade (FromRoot opening.now.labels opening.now.root) opening.now.kind opening.now.topology (Some (knows r.1))) }
+        × IsMade (FromRoot opening.now.labels opening.now.root) opening.now.kind opening.now.topology
+        (Some (knows r.1))) }
     ensures refused { IfErr result
         (λ e. ((e ≡ OpenError.Disconnected) × IsDisconnected opening.now.topology)
         ⊎ ((e ≡ OpenError.NoMemory) ⊎ (e ≡ OpenError.Used))) }

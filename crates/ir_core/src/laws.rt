@@ -64,9 +64,11 @@ pub fn made_plan_is_determined()
 /// node that lacked its row. Where none does it is all of the walk. The record of such a packet is
 /// sound as one that is left.
 pub fn ways_over_lacking_rows()
-    ensures exists { (plan : Plan) (found : ℕ → ℕ → Option (List Start)) (u d : ℕ) → IsSentOver plan found u d
+    ensures exists { (plan : Plan) (found : ℕ → ℕ → Option (List Start)) (u d : ℕ)
+        → IsSentOver plan found u d
         → (way : List ℕ) × IsWayOver plan found u d way }
-    ensures front { (plan : Plan) (found : ℕ → ℕ → Option (List Start)) (u d : ℕ) → IsSentOver plan found u d
+    ensures front { (plan : Plan) (found : ℕ → ℕ → Option (List Start)) (u d : ℕ)
+        → IsSentOver plan found u d
         → (way : List ℕ) → IsWayOver plan found u d way → IsFrontOfTheWalk plan found u d way }
     ensures all { (plan : Plan) (found : ℕ → ℕ → Option (List Start)) (u d : ℕ) → IsSentOver plan found u d
         → LackNone plan found → (way : List ℕ) → IsWayOver plan found u d way

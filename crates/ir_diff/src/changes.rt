@@ -108,7 +108,8 @@ pub fn changes_of(alloc: Global, old: &[Lead], new: &[Lead]) -> Result<Changes, 
     ensures removed { IfOk result (λ c. c.removed.items ≡ removed_starts old.now new.now) }
     ensures put { IfOk result (λ c. c.put.items ≡ put_leads old.now new.now) }
     ensures same { IfOk result (λ c. (old.now ≡ new.now) ↔ ((c.removed.items ≡ []) × (c.put.items ≡ []))) }
-    ensures few { IfOk result (λ c. (length c.removed.items ≤ length old.now) × (length c.put.items ≤ length new.now)) }
+    ensures few { IfOk result (λ c. (length c.removed.items ≤ length old.now)
+        × (length c.put.items ≤ length new.now)) }
     ensures patched { IfOk result (λ c. MakesNewRow old.now new.now c.removed.items c.put.items) }
     ensures fewest { IfOk result (λ c. IsFewestChange old.now new.now (length c.removed.items) (length c.put.items)) }
 {

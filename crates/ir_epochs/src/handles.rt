@@ -288,7 +288,8 @@ impl<R: Wait + Drop> BoardWriter<R> {
     pub fn leads(&mut self, reader: &BoardReader)
         requires { reader_board reader.now ≡ writer_board self.old }
         ensures led { IsPrefix (known reader.now) (published self.old) }
-        ensures same { (published self.new ≡ published self.old) × (writer_board self.new ≡ writer_board self.old) }
+        ensures same { (published self.new ≡ published self.old)
+            × (writer_board self.new ≡ writer_board self.old) }
     {
         let mut both = self.published().again();
         both.learn(reader.known());

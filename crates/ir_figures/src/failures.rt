@@ -137,7 +137,8 @@ pub(crate) fn push_plan(
     requires labels { MayLabel net kind (labelling_of labels) }
     requires root { 0 < node_count net → HasRoot net (labelling_of labels) }
     requires numbers { HaveNumbers other.now without (node_count net) }
-    ensures { OnOk result ((words : List (List ℕ)) × AreWordsOf net kind (labelling_of labels) other.now without words
+    ensures { OnOk result ((words : List (List ℕ))
+        × AreWordsOf net kind (labelling_of labels) other.now without words
         × (string_bytes text.new ≡ string_bytes text.old ++ flat_map spaced words)) }
 {
     match Plan::build_by(&Alone, alloc, net, kind, labels) {
@@ -174,7 +175,8 @@ fn push_left(
     requires link { l < length plan.now.topology.links }
     requires over { IsOtherOver other.now plan.now.topology }
     ensures { OnOk result ((words : List (List ℕ))
-        × AreWordsOf (without_link plan.now.topology l) plan.now.kind (labelling_left plan.now order) other.now None words
+        × AreWordsOf (without_link plan.now.topology l) plan.now.kind (labelling_left plan.now order) other.now None
+        words
         × (string_bytes text.new ≡ string_bytes text.old ++ flat_map spaced words)) }
 {
     plan.invariant();

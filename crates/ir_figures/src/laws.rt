@@ -13,7 +13,8 @@ pub fn numbers_rule_out_rings()
     ensures together { (plan other : Plan) (nodes ports : List ℕ) → IsWithoutRing (WaitsInEither plan other)
         → IsWaitingRing (WaitsInEither plan other) nodes ports → ⊥ }
     ensures beside { (plan part : Plan) (number : ℕ → ℕ) (nodes ports : List ℕ)
-        → IsWithoutRing (WaitsBeside plan number part) → IsWaitingRing (WaitsBeside plan number part) nodes ports → ⊥ }
+        → IsWithoutRing (WaitsBeside plan number part)
+        → IsWaitingRing (WaitsBeside plan number part) nodes ports → ⊥ }
 {}
 
 /// In a tree plan no links wait for each other in a ring: links towards the root come before links away from it.

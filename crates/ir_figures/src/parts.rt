@@ -27,7 +27,8 @@ fn whole_number(without: Option<u16>, u: u16) -> u16
 /// The port that leads to a node.
 fn port_to(ports: &[Hop], v: u16) -> Option<usize>
     ensures some { IfSome result (λ p. IsSomeAnd (slice_get ports.now p) (λ hop. hop.node ≡ v)) }
-    ensures none { IfNone result ((p : ℕ) (hop : Hop) → slice_get ports.now p ≡ Some hop → hop.node ≡ v → ⊥) }
+    ensures none { IfNone result ((p : ℕ) (hop : Hop) → slice_get ports.now p ≡ Some hop
+        → hop.node ≡ v → ⊥) }
 {
     for p in 0..ports.len() {
         if ports[p].node == v {
@@ -186,8 +187,8 @@ fn marks_beside(
     Ok(rows)
 }
 
-/// The nodes that waiting links leave in a ring, if there is one, where packets of a plan over a network and of one over
-/// a part of it are under way at once.
+/// The nodes that waiting links leave in a ring, if there is one, where packets of a plan over a network and of one
+/// over a part of it are under way at once.
 pub(crate) fn ring_beside(
     alloc: Global,
     plan: &Plan,

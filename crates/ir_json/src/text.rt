@@ -22,7 +22,8 @@ fn push_form(text: &mut String, form: Form, line: &[u8]) -> Result<(), Refusal>
 }
 
 fn push_line(text: &mut String, shape: Shape, place: usize, line: &[u8]) -> Result<(), Refusal>
-    ensures { OnOk result (string_bytes text.new ≡ string_bytes text.old ++ json_line shape place (words_of line.now)) }
+    ensures { OnOk result (string_bytes text.new
+        ≡ string_bytes text.old ++ json_line shape place (words_of line.now)) }
 {
     push_str(text, lead(shape, place, line))?;
     push_form(text, form_of(shape, place, line), line)

@@ -47,7 +47,8 @@ fn word_of_ports(row: &Row, labels: usize, label: usize) -> u32
     requires from { label < 65536 }
     requires ascending { IsAscending row.now }
     requires ports { (k : ℕ) → k < length row.now → slice_index (start_ports row.now) k < 256 }
-    ensures ports { (i : ℕ) → i < 4 → label + i < labels → HasPort labels row.now (label + i) (byte_of result i) }
+    ensures ports { (i : ℕ) → i < 4 → label + i < labels
+        → HasPort labels row.now (label + i) (byte_of result i) }
     ensures over { (i : ℕ) → i < 4 → labels ≤ label + i → byte_of result i ≡ 255 }
 {
     packed(

@@ -56,7 +56,8 @@ pub fn lines(alloc: Global, owner: Owner, row: &Row) -> Result<Vec<u32>, AllocEr
     ensures table { IfOk result (λ words. IsTable owner row.now words.items) }
     ensures led { 0 < length row.now → IfOk result (λ words. (label : ℕ) → label < owner.labels
         → IsLed words.items label) }
-    ensures ports { IfOk result (λ words. (label port : ℕ) → label < owner.labels → LinesLeadTo words.items label port
+    ensures ports { IfOk result (λ words. (label port : ℕ) → label < owner.labels
+        → LinesLeadTo words.items label port
         → HasPort owner.labels row.now label port) }
 {
     let greatest = greatest_port(row);

@@ -87,10 +87,10 @@ fn text_of(alloc: Global, sides: &TwoSides<'_>) -> Result<String, AllocError>
 }
 
 /// The text of what each node changes between a plan over one network and a plan over another one with the same nodes,
-/// in whatever order: `diff KIND KIND N CHANGED RELABELLED REMOVED PUT`, and for each node whose label or row is another
-/// one a line `NODE WAS LABEL` and, by ascending starts, `- START` for what goes, and `+ START NEIGHBOUR` for what comes
-/// or leads to another neighbour. `other_node` finds networks of other nodes. Conditions: each plan is over its graph's
-/// network. It is refused for memory alone. Takes O(n + s), for n nodes and s starts of both plans.
+/// in whatever order: `diff KIND KIND N CHANGED RELABELLED REMOVED PUT`, and for each node whose label or row is
+/// another one a line `NODE WAS LABEL` and, by ascending starts, `- START` for what goes, and `+ START NEIGHBOUR` for
+/// what comes or leads to another neighbour. `other_node` finds networks of other nodes. Conditions: each plan is
+/// over its graph's network. It is refused for memory alone. Takes O(n + s), for n nodes and s starts of both plans.
 pub fn diff_text(
     alloc: Global,
     old_graph: &Graph,

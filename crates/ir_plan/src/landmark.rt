@@ -1,5 +1,5 @@
-//! The row of a node in a landmark plan: the fewest intervals over all choices of ports that lead within the bound by the
-//! landmarks.
+//! The row of a node in a landmark plan: the fewest intervals over all choices of ports that lead within the bound by
+//! the landmarks.
 
 ghost use Rattle.std.specs.Prelude.{◌<◌, IfOk, IfSome, slice_index};
 ghost use Rattle.ir_model.specs.{declared.Kind.TheVariants.Landmark, Topology.node_count, Walk.IsConnected};

@@ -35,7 +35,8 @@ pub fn tour_has_no_more_starts()
 
 /// What a landmark plan prescribes weighs no more, of the distance in percent, than its stretch.
 pub fn ways_of_a_landmark_plan()
-    ensures { (p : Plan) → IsPlan p → (t : Detour) → p.kind ≡ Landmark t → (u d n : ℕ) → IsDistance p.topology u d n
+    ensures { (p : Plan) → IsPlan p → (t : Detour) → p.kind ≡ Landmark t → (u d n : ℕ)
+        → IsDistance p.topology u d n
         → (walk : List ℕ) → IsPrescribedWalk p.topology (table_port p) u d walk
         → 100 * walk_weight p.topology walk ≤ t.stretch * n }
 {}

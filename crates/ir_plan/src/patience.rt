@@ -2,8 +2,8 @@
 
 use std::sync::atomic::{AtomicU64, Ordering};
 
-/// How many batches go without the lanes. Threads share it. No row depends on it; what it answers is tested, and nothing
-/// is proved of it.
+/// How many batches go without the lanes. Threads share it. No row depends on it; what it answers is tested, and
+/// nothing is proved of it.
 #[derive(Drop)]
 pub struct Patience {
     /// How many batches from now on.

@@ -143,7 +143,8 @@ fn words_by(
 
 // Whether each batch has words.
 fn are_found(batches: &[Vec<u16>]) -> bool
-    ensures { IsTrue result → (b : ℕ) → b < length batches.now → slice_index_or (lists_of batches.now) b [] ≢ [] }
+    ensures { IsTrue result → (b : ℕ) → b < length batches.now
+        → slice_index_or (lists_of batches.now) b [] ≢ [] }
 {
     for words in batches {
         if words.is_empty() {

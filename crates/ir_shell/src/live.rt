@@ -98,7 +98,8 @@ fn live_texts(
     ensures in_memory { IfOk result (λ _. list_any is_for_memory live.now.refusals.items ≡ false) }
     ensures trace { IfOk result (λ texts. string_bytes texts.0
         ≡ run_text restamps (names graph.now) topology.now live.now.report.records.items) }
-    ensures told { IfOk result (λ texts. steps_text texts.1.items ≡ refusals_text lines.now live.now.refusals.items) }
+    ensures told { IfOk result (λ texts. steps_text texts.1.items
+        ≡ refusals_text lines.now live.now.refusals.items) }
 {
     let refusals = live.refusals.as_slice();
     if wants_memory(refusals) {

@@ -187,7 +187,8 @@ fn pour_lines<W: Writer>(
 )
     requires pieces { ArePieces pieces.now }
     requires block { IsBlock (length pieces.now.graph) block }
-    requires made { IfSome made (λ texts. flat_map (λ text. text.items) texts.items ≡ block_lines pieces.now block) }
+    requires made { IfSome made (λ texts. flat_map (λ text. text.items) texts.items
+        ≡ block_lines pieces.now block) }
     ensures { Pours W.contents W.wrote W.settled writer.old parts.old (block_lines pieces.now block)
         writer.new parts.new }
 {

@@ -169,9 +169,9 @@ fn text_of_lines(
 }
 
 /// The text of some nodes of a plan, from the first end of a span to the second: `plan KIND N L FIRST LAST`, where L is
-/// the number of the starts of these nodes, and their lines of the plan's text. Conditions: the plan is over the graph's
-/// network, and the ends are nodes of it, the second not before the first. It is refused for memory alone. Takes O(c + s),
-/// for c nodes and s starts.
+/// the number of the starts of these nodes, and their lines of the plan's text. Conditions: the plan is over the
+/// graph's network, and the ends are nodes of it, the second not before the first. It is refused for memory alone.
+/// Takes O(c + s), for c nodes and s starts.
 pub fn span_text(
     alloc: Global,
     graph: &Graph,
@@ -188,10 +188,10 @@ pub fn span_text(
     text_of_lines(alloc, plan.kind(), plan.nodes(), (first, last), lines)
 }
 
-/// The same text, of the plan of a kind over a topology by these labels. That plan is not built: the rows of these nodes
-/// alone are made, each by a search from its node. Conditions: the kind is one of shortest ways, the topology is the
-/// graph's network, the ends are nodes of it if it has any, the second not before the first, and no tour is sought
-/// (`needs_no_tour`).
+/// The same text, of the plan of a kind over a topology by these labels. That plan is not built: the rows of these
+/// nodes alone are made, each by a search from its node. Conditions: the kind is one of shortest ways, the topology
+/// is the graph's network, the ends are nodes of it if it has any, the second not before the first, and no tour is
+/// sought (`needs_no_tour`).
 ///
 /// Refused as the plan is (`Plan::build_by`). Takes for each node what `row_of_node` takes, and O(n + m) memory beside
 /// the text, for n nodes of the network and m links.

@@ -77,8 +77,8 @@ impl Outward {
     }
 }
 
-/// The weights of the lightest walks to `d`, by node, `UNREACHED` where there is none. A link weighs the same both ways,
-/// so they are those of the walks from `d`. Takes O((n + m) log m), for n nodes and m links.
+/// The weights of the lightest walks to `d`, by node, `UNREACHED` where there is none. A link weighs the same both
+/// ways, so they are those of the walks from `d`. Takes O((n + m) log m), for n nodes and m links.
 pub fn weights_to(alloc: Global, topology: &Topology, d: usize) -> Result<Vec<u32>, AllocError>
     requires { d < node_count topology.now }
     ensures { IfOk result (λ weights. IsRelaxed topology.now d weights.items) }

@@ -8,7 +8,8 @@ use ir_tables::Topology;
 use std::alloc::Global;
 use std::test::Fail;
 
-/// Two networks, and the text of what nodes change between their plans of kind shortest, numbered from their first nodes.
+/// Two networks, and the text of what nodes change between their plans of kind shortest, numbered from their first
+/// nodes.
 struct Between {
     name: &'static str,
     old: &'static [u8],

@@ -12,7 +12,8 @@ use std::alloc::Global;
 
 /// Whether these are nodes.
 fn are_nodes(topology: &Topology, nodes: &[u16]) -> bool
-    ensures { IsTrue result → (d : ℕ) → d < length nodes.now → slice_index nodes.now d < node_count topology.now }
+    ensures { IsTrue result → (d : ℕ) → d < length nodes.now
+        → slice_index nodes.now d < node_count topology.now }
 {
     for v in nodes {
         if *v as usize >= topology.nodes() {

@@ -86,8 +86,8 @@ fn is_full(world: &mut World) -> bool {
 }
 
 /// Changes of a board that has no further version, and why each is refused: link 0 is down, epoch 3 is the current one,
-/// and none is retired. That there are too many changes is reported last, but before the links that are up are asked for
-/// a plan.
+/// and none is retired. That there are too many changes is reported last, but before the links that are up are asked
+/// for a plan.
 const PAST: [(Event, Refused); 10] = [
     (Event::Down(0), Refused::Same),
     (Event::Up(0), Refused::TooManyChanges),

@@ -49,7 +49,8 @@ pub fn push_xml_name(text: &mut String, graph: &Graph, u: u16) -> TextResult
 /// Writes the name of a node in XML, cut if it is long.
 pub fn push_short_name(text: &mut String, graph: &Graph, u: u16) -> TextResult
     requires { u < length graph.now }
-    ensures { OnOk result (string_bytes text.new ≡ string_bytes text.old ++ short_name (name_at (names graph.now) u)) }
+    ensures { OnOk result (string_bytes text.new
+        ≡ string_bytes text.old ++ short_name (name_at (names graph.now) u)) }
 {
     graph.invariant();
     let name = name_of(graph, u);

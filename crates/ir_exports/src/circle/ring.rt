@@ -65,7 +65,8 @@ fn label_behind(n: u16, d: u16) -> u16
 fn push_ring_edge(text: &mut String, graph: &Graph, plan: &Plan, d: u16) -> TextResult
     requires nodes { node_count plan.now.topology ≡ length graph.now }
     requires label { d < length graph.now }
-    ensures { OnOk result (string_bytes text.new ≡ string_bytes text.old ++ edge_of_ring (names graph.now) plan.now d) }
+    ensures { OnOk result (string_bytes text.new
+        ≡ string_bytes text.old ++ edge_of_ring (names graph.now) plan.now d) }
 {
     let n = plan.nodes() as u16;
     if n == 1 {

@@ -34,7 +34,8 @@ pub fn landmark_bound_keeps_the_stretch()
 
 /// The bound by landmarks can be kept: from each node to each other some port leads within it.
 pub fn landmark_bound_can_be_kept()
-    ensures { (net : Topology) → IsTopology net → IsConnected net → (landmarks : List ℕ) → AreLandmarks net landmarks
+    ensures { (net : Topology) → IsTopology net → IsConnected net → (landmarks : List ℕ)
+        → AreLandmarks net landmarks
         → (stretch : ℕ) → IsPathStretch stretch → IsKeepable net (IsLandmarkBound net landmarks stretch) }
 {}
 
@@ -43,12 +44,14 @@ pub fn landmark_bound_can_be_kept()
 pub fn prescribed_walk_of_a_landmark_table()
     ensures exists { (net : Topology) → IsTopology net → IsConnected net → (landmarks : List ℕ)
         → AreLandmarks net landmarks → (stretch : ℕ) → IsPathStretch stretch
-        → (order : List ℕ) (table : ℕ → ℕ → Option ℕ) → IsLandmarkTable net landmarks stretch order table
+        → (order : List ℕ) (table : ℕ → ℕ → Option ℕ)
+        → IsLandmarkTable net landmarks stretch order table
         → (u d n : ℕ) → IsDistance net u d n
         → (walk : List ℕ) × IsPrescribedWalk net table u d walk × (length walk ≤ node_count net) }
     ensures stretch { (net : Topology) → IsTopology net → IsConnected net → (landmarks : List ℕ)
         → AreLandmarks net landmarks → (stretch : ℕ) → IsPathStretch stretch
-        → (order : List ℕ) (table : ℕ → ℕ → Option ℕ) → IsLandmarkTable net landmarks stretch order table
+        → (order : List ℕ) (table : ℕ → ℕ → Option ℕ)
+        → IsLandmarkTable net landmarks stretch order table
         → (u d n : ℕ) → IsDistance net u d n → (walk : List ℕ) → IsPrescribedWalk net table u d walk
         → IsWalk net u d walk × (100 * walk_weight net walk ≤ stretch * n) }
 {}
@@ -63,7 +66,8 @@ pub fn landmark_table_is_determined()
 
 /// At a stretch of 100 percent the table is the compact one, whatever the landmarks.
 pub fn landmark_table_without_stretch_is_compact()
-    ensures { (net : Topology) → IsTopology net → IsConnected net → (landmarks : List ℕ) → AreLandmarks net landmarks
+    ensures { (net : Topology) → IsTopology net → IsConnected net → (landmarks : List ℕ)
+        → AreLandmarks net landmarks
         → (order : List ℕ) (table : ℕ → ℕ → Option ℕ)
         → IsLandmarkTable net landmarks 100 order table ↔ IsCompactTable net order table }
 {}

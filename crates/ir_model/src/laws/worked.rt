@@ -28,8 +28,8 @@ pub fn weighted_example()
     ensures tree_weight { walk_weight six (0 ∷ 1 ∷ 2 ∷ 4 ∷ []) ≡ 19 }
 {}
 
-/// In a triangle whose node 0 is the landmark the bound from 2 to 1 is 2 at a stretch of 300 percent, where the distance
-/// is 1. So one interval of all labels, by the port to 0, is a row of node 2.
+/// In a triangle whose node 0 is the landmark the bound from 2 to 1 is 2 at a stretch of 300 percent, where the
+/// distance is 1. So one interval of all labels, by the port to 0, is a row of node 2.
 pub fn triangle_with_a_landmark()
     ensures landmark { IsLandmarkOf triangle (0 ∷ []) 1 0 1 }
     ensures distance { IsDistance triangle 2 1 1 }
