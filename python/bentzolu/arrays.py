@@ -108,7 +108,7 @@ class Wiring:
         self.tail[0:-1:2], self.tail[1:-1:2] = table[:, 0], table[:, 1]
         self.head[0:-1:2], self.head[1:-1:2] = table[:, 1], table[:, 0]
         self.weight[0:-1:2] = self.weight[1:-1:2] = table[:, 2]
-        self.type = np.uint16 if self.none < 1 << 16 else np.int32
+        self.type, self.place = (np.uint16 if most < 1 << 16 else np.int32 for most in (self.none, n))  # of an arc, and of a node
         tail, head = self.tail[:-1], self.head[:-1]
         self.degree = np.bincount(tail, minlength=n)
         keys = tail * n + head
@@ -124,46 +124,68 @@ class Wiring:
         self.pair_in = np.full(self.none + 1, self.pairs[-1], np.int64)
         self.pair_in[:-1] = self.pairs[head] + place_in[:-1] * self.degree[head]
 
-    def arcs_from(self, tails: Array, heads: Array) -> Array:
-        """The arc from each of these nodes to the neighbour beside it."""
+    def arcs_of(self, rows: Rows) -> Array:
+        """The arc of each interval of a plan."""
         np = numpy()
-        keys = tails * np.int32(self.n) + heads
+        keys = rows.owner * np.int32(self.n) + rows.to
         at = np.minimum(np.searchsorted(self.keys, keys), max(0, self.none - 1))
         if len(keys) and (self.none == 0 or (self.keys[at] != keys).any()):
             raise FormatError("the plan has a neighbour without a link to it")
-        return self.outward[at] if len(keys) else np.zeros(0, np.int64)
+        return self.outward[at].astype(self.type) if len(keys) else np.zeros(0, self.type)
 
 
-def next_arcs(rows: Rows, wiring: Wiring) -> Array:
+def next_arcs(rows: Rows, wiring: Wiring, by: Array) -> Array:
     """The arc by which each node sends on to each other node, by source and target; none at the target itself, and where either
-    node is not in the plan."""
+    node is not in the plan. `by` has the arc of each interval."""
+    found = numpy().full((wiring.n, wiring.n), wiring.none, wiring.type)
+    for sources, arcs in arcs_in_turn(rows, wiring, by):
+        found[sources] = arcs
+    return found
+
+
+def arcs_in_turn(rows: Rows, wiring: Wiring, by: Array) -> Iterator[Tuple[Array, Array]]:
+    """The same, of some nodes of the plan at a time, so that little memory is taken: their places, and their arcs by source and
+    target."""
     np = numpy()
-    n, none = len(rows.nodes), wiring.none
+    n = len(rows.nodes)
     if n == 1 or not len(rows.start):
-        return np.full((wiring.n, wiring.n), none, wiring.type)
-    arcs = wiring.arcs_from(rows.owner, rows.to).astype(wiring.type)
-    last = np.cumsum(rows.length)
-    first = last - rows.length
+        return
     if (rows.length < 1).any() or (rows.start >= n).any():
         raise FormatError("a row does not have the labels of all nodes")
-    front = np.arange(n) + first  # labels before a row's first start go the way of its last interval
-    wide, part = np.empty(len(arcs) + n, wiring.type), np.empty(len(arcs) + n, np.int64)
+    last = np.cumsum(rows.length)
+    height = max(1, BLOCK // n)
+    for low in range(0, n, height):
+        some = slice(low, low + height)
+        arcs = np.take(arcs_by_label(rows, by, wiring.none, some, last), rows.label, axis=1)
+        if n < wiring.n:
+            whole = np.full((len(arcs), wiring.n), wiring.none, wiring.type)
+            whole[:, rows.nodes] = arcs
+            arcs = whole
+        yield rows.nodes[some], arcs
+
+
+def arcs_by_label(rows: Rows, by: Array, none: int, some: slice, last: Array) -> Array:
+    """The arcs of some nodes of the plan, by source and label. `by` has the arc of each interval, and `last` where the intervals of
+    each node end."""
+    np = numpy()
+    n, length = len(rows.nodes), rows.length[some]
+    along = np.arange(len(length))
+    begin = int(last[some][0] - length[0])
+    own = slice(begin, int(last[some][-1]))
+    arcs, starts = by[own], rows.start[own]
+    end = last[some] - begin
+    first = end - length
+    front = along + first  # labels before a row's first start go the way of its last interval
+    wide, part = np.empty(len(arcs) + len(along), by.dtype), np.empty(len(arcs) + len(along), np.int64)
     others = np.ones(len(wide), bool)
     others[front] = False
-    wide[front], wide[others] = arcs[last - 1], arcs
+    wide[front], wide[others] = arcs[end - 1], arcs
     ends = np.empty(len(arcs), np.int64)
-    ends[:-1], ends[last - 1] = rows.start[1:], n
-    part[front], part[others] = rows.start[first], ends - rows.start
-    found = np.repeat(wide, part).reshape(n, n)
-    found[np.arange(n), rows.label] = none
-    height = max(1, BLOCK // n)
-    for low in range(0, n, height):  # by label, and now by target, in the same place
-        found[low : low + height] = np.take(found[low : low + height], rows.label, axis=1)
-    if n == wiring.n:
-        return found
-    whole = np.full((wiring.n, wiring.n), none, wiring.type)
-    whole[np.ix_(rows.nodes, rows.nodes)] = found
-    return whole
+    ends[:-1], ends[end - 1] = starts[1:], n
+    part[front], part[others] = starts[first], ends - starts
+    found = np.repeat(wide, part).reshape(len(along), n)
+    found[along, rows.label[some]] = none
+    return found
 
 
 def walk_weights(arcs: Array, wiring: Wiring) -> Array:
@@ -202,8 +224,10 @@ def tree_weights(rows: Rows, arcs: Array, wiring: Wiring) -> Array:
     np = numpy()
     n, nodes = len(rows.nodes), rows.nodes
     order = nodes[np.argsort(rows.label)]  # the node of each label
-    label = np.zeros(wiring.n, np.int64)
-    label[nodes] = rows.label
+    missing = np.ones(wiring.n, bool)
+    missing[nodes] = False
+    label = np.empty(wiring.n, np.int64)
+    label[nodes], label[missing] = rows.label, np.arange(n, wiring.n)  # a node that is missing has a number past the labels
     up = arcs[order]
     parent, weight = label[wiring.head[up]], wiring.weight[up]
     size = [1] * n
@@ -212,50 +236,51 @@ def tree_weights(rows: Rows, arcs: Array, wiring: Wiring) -> Array:
         depth[v] = depth[parent[v]] + weight[v]
     for v in range(n - 1, 0, -1):
         size[parent[v]] += size[v]
-    by_label = np.empty((n, n), np.uint16 if 2 * int(depth.max()) < 1 << 16 else np.int32)
+    found = np.zeros((wiring.n, wiring.n), np.uint16 if 2 * int(depth.max()) < 1 << 16 else np.int32)
+    by_label = found[:n, :n]
     by_label[0] = depth
     for v in range(1, n):
         above, below = by_label[parent[v]], slice(v, v + size[v])
         by_label[v] = above + weight[v]
         by_label[v, below] = above[below] - weight[v]
-    del up
-    if n < wiring.n:
-        found = np.zeros((wiring.n, wiring.n), by_label.dtype)
-        for node in nodes:
-            found[node, nodes] = by_label[label[node], rows.label]
-        return found
-    for row in by_label:  # all nodes are there: each row by target, and then the rows by source, in the same place
-        row[:] = row[rows.label]
-    seen = np.zeros(n, bool)
-    for first in range(n):  # the row of label[first] goes to first, and so on round the ring of rows
+    for row in found[:n]:  # each row by target, in the same place
+        by_target = row[rows.label]
+        row[:] = 0
+        row[nodes] = by_target
+    order_rows(found, label)
+    return found
+
+
+def order_rows(found: Array, places: Array) -> None:
+    """Puts the rows of a matrix in another order, in the same place: the row places[i] comes to i. Each place is there once."""
+    seen = numpy().zeros(len(places), bool)
+    for first in range(len(places)):  # round each ring of rows
         if seen[first]:
             continue
-        kept, node = by_label[first].copy(), first
+        kept, to = found[first].copy(), first
         while True:
-            seen[node] = True
-            after = int(label[node])
+            seen[to] = True
+            after = int(places[to])
             if after == first:
-                by_label[node] = kept
+                found[to] = kept
                 break
-            by_label[node] = by_label[after]
-            node = after
-    return by_label
+            found[to] = found[after]
+            to = after
 
 
-def weights_over(arcs: Array, wiring: Wiring, distance: Array, over: Array) -> Array:
-    """The weights of the walks of some pairs, where those of all other pairs are the distances.
+def weights_over(arcs: Array, wiring: Wiring, distance: Array, over: Array) -> Iterator[Tuple[Array, Array]]:
+    """The weights of the walks of some pairs, where those of all other pairs are the distances: pairs and their weights, those to some
+    targets at a time, so that little memory is taken.
 
     Parameters
     ----------
     over : the pairs, ascending, each as source * n + target
     """
-    np = numpy()
-    targets, total = over % wiring.n, np.zeros(len(over), np.int32)
-    width = -(-wiring.n // (1 + 4 * len(over) // BLOCK))
-    for low in range(0, wiring.n, width):  # walks to some targets at a time, so that little memory is taken
-        some = np.flatnonzero((targets >= low) & (targets < low + width))
-        total[some] = weights_to_some(arcs, wiring, distance, over[some])
-    return total
+    targets = (over % wiring.n).astype(wiring.place)
+    width = -(-wiring.n // (1 + 8 * len(over) // BLOCK))
+    for low in range(0, wiring.n, width):
+        some = over[(targets >= low) & (targets < low + width)]
+        yield some, weights_to_some(arcs, wiring, distance, some)
 
 
 def weights_to_some(arcs: Array, wiring: Wiring, distance: Array, over: Array) -> Array:
@@ -325,6 +350,22 @@ class Change(NamedTuple):
     bits: int
 
 
+def starts_changed(before: Rows, old: slice, after: Rows, new: slice, there: Array, ends: Tuple[int, int]) -> List[Array]:
+    """How many starts go, and how many come or get another neighbour, at each node between these two ends: of those intervals of the
+    plan before that are of nodes still there, and of those of the plan after."""
+    np = numpy()
+    n = len(there)
+    kept = there[before.owner[old]]
+    owner, start, to = (it[old][kept] for it in (before.owner, before.start, before.to))
+    was, now = owner * np.int32(n) + start, after.owner[new] * np.int32(n) + after.start[new]
+    at = np.minimum(np.searchsorted(now, was), max(0, len(now) - 1))
+    stays = now[at] == was if len(now) else np.zeros(len(was), bool)
+    same = stays & (after.to[new][at] == to) if len(now) else stays
+    fresh = np.ones(len(now), bool)
+    fresh[at[same]] = False
+    return [np.bincount(it // n - ends[0], minlength=ends[1] - ends[0])[: n - ends[0]] for it in (was[~stays], now[fresh])]
+
+
 def change(before: Rows, after: Rows, n: int, degree: Array) -> Change:
     """The change from one plan to another, at the nodes of the second.
 
@@ -341,20 +382,13 @@ def change(before: Rows, after: Rows, n: int, degree: Array) -> Change:
     there[after.nodes] = True
     label = np.full(n, -1, np.int64)
     label[before.nodes] = before.label
-    kept = there[before.owner]
-    owner, start, old_to = (it if kept.all() else it[kept] for it in (before.owner, before.start, before.to))
-    old, new = owner * np.int32(n), after.owner * np.int32(n)
-    old += start  # in place, so that little memory is taken
-    new += after.start
-    del kept, owner, start
-    at = np.searchsorted(new, old)
-    np.minimum(at, max(0, len(new) - 1), out=at)
-    stays = new[at] == old if len(new) else np.zeros(len(old), bool)
-    same = stays & (after.to[at] == old_to) if len(new) else stays
-    fresh = np.ones(len(new), bool)
-    fresh[at[same]] = False
-    removed = np.bincount(old[~stays] // n, minlength=n)[after.nodes]
-    put = np.bincount(new[fresh] // n, minlength=n)[after.nodes]
+    counts = np.zeros((2, n), np.int64)
+    height = max(1, n * BLOCK // (2 * max(1, len(before.start), len(after.start))))
+    for low in range(0, n, height):  # some nodes at a time, so that little memory is taken
+        ends = (low, low + height)
+        old, new = (slice(*np.searchsorted(it.owner, ends)) for it in (before, after))
+        counts[:, low : low + height] = starts_changed(before, old, after, new, there, ends)
+    removed, put = counts[:, after.nodes]
     relabelled = label[after.nodes] != after.label
     changed = relabelled | (removed > 0) | (put > 0)
     wide = bits_for(len(after.nodes))

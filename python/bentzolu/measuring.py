@@ -15,8 +15,8 @@ from typing import Any, Dict, List, NamedTuple, Optional, Sequence, Set, Tuple
 
 from . import inside, program as programs
 from .arrays import (
-    Link, Rows, Wiring, bits_of, change, has_ring, next_arcs, on_shortest, rounded, parts_of, read_rows, to_root, tree_weights, waits,
-    walk_weights, weights_over, BLOCK,
+    Link, Rows, Wiring, arcs_in_turn, bits_of, change, has_ring, next_arcs, on_shortest, rounded, parts_of, read_rows, to_root,
+    tree_weights, waits, walk_weights, weights_over, BLOCK,
 )
 from .optional import numpy
 
@@ -85,38 +85,43 @@ class Planner:
 
 
 class Planned(NamedTuple):
-    """A plan with what is asked of it: the rows, the next arcs by source and target, and the arcs that wait."""
+    """A plan with what is asked of it: the rows, the arc of each interval, the next arcs by source and target, and the arcs that
+    wait."""
 
     rows: Rows
+    by: Any
     arcs: Any
     flags: Any
     ring: bool
 
 
 class ByPlans:
-    """Figures by plans: one for the whole network, which is kept, and one for each failure."""
+    """Figures by plans: one for the whole network, which is kept without its next arcs, and one for each failure."""
 
     def __init__(self, task: Task) -> None:
         self.task, self.planner = task, Planner(task)
         self.wiring = Wiring(task.n, task.links)
         first = "tour" if task.numbering == "keep" else task.numbering
         self.order: Optional[List[int]] = None if task.order is None else list(task.order)
-        self.whole = self.planned(set(), (), first)
+        whole = self.planned(set(), (), first)
         if task.numbering == "keep" and self.order is None:
-            self.order = [int(u) for u in self.whole.rows.label.argsort()]
+            self.order = [int(u) for u in whole.rows.label.argsort()]
         if task.kind == "tree":
-            self.walks = tree_weights(self.whole.rows, to_root(self.whole.rows, self.whole.arcs), self.wiring)
+            self.walks = tree_weights(whole.rows, to_root(whole.rows, whole.arcs), self.wiring)
         else:
-            self.walks = self.distance = walk_weights(self.whole.arcs, self.wiring)
+            self.walks = self.distance = walk_weights(whole.arcs, self.wiring)
+        self.whole = whole._replace(arcs=None)
+        del whole
         if task.kind in LONGER:
             rows = self.planner.planned(set(), (), "shortest", None, "depth-first")
-            self.distance = walk_weights(next_arcs(rows, self.wiring), self.wiring)
+            self.distance = walk_weights(next_arcs(rows, self.wiring, self.wiring.arcs_of(rows)), self.wiring)
 
     def planned(self, down: Set[int], gone: Sequence[int], numbering: str) -> Planned:
         rows = self.planner.planned(down, gone, self.task.kind, self.order, numbering)
-        arcs = next_arcs(rows, self.wiring)
+        by = self.wiring.arcs_of(rows)
+        arcs = next_arcs(rows, self.wiring, by)
         flags = waits(arcs, self.wiring)
-        return Planned(rows, arcs, flags, has_ring(flags, self.wiring))
+        return Planned(rows, by, arcs, flags, has_ring(flags, self.wiring))
 
     def row(self, failure: Failure) -> Dict[str, Any]:
         """The figures of a failure; those that ask for a plan are None where the nodes that are left have no path to each other."""
@@ -137,10 +142,13 @@ class ByPlans:
         """The figures of a failure that cuts nothing off."""
         np = numpy()
         wiring, (_, gone) = self.wiring, failure
-        now = self.whole if failure == INTACT else self.planned(down, gone, self.task.numbering)
+        if failure == INTACT:
+            now = self.whole._replace(arcs=next_arcs(self.whole.rows, wiring, self.whole.by))
+        else:
+            now = self.planned(down, gone, self.task.numbering)
         ends = [u for i in down for u in self.task.links[i][:2]]
         degree = wiring.degree - np.bincount(np.array(ends, np.int64), minlength=self.task.n)
-        rerouted = differing(now.arcs, self.whole.arcs, gone)
+        rerouted = differing(now.arcs, self.whole, wiring, gone)
         if self.task.kind == "tree":  # of whose arcs no more than those to the root are asked for
             now = now._replace(arcs=to_root(now.rows, now.arcs))
         changed = change(self.whole.rows, now.rows, self.task.n, wiring.degree)
@@ -160,7 +168,6 @@ class ByPlans:
         Walks of shortest paths can only be longer where the whole network has a shortest path over what failed, so no others are
         followed. Those of the kinds `LONGER` are all followed.
         """
-        np = numpy()
         lost, gone = failure
         alive = self.task.n - len(gone)
         pairs = alive * (alive - 1)
@@ -168,11 +175,13 @@ class ByPlans:
             return None, None, 0
         if self.task.kind not in LONGER:
             over = on_shortest(self.distance, [self.task.links[i] for i in lost], gone)
-            before = self.distance.reshape(-1)[over].astype(np.int32)
-            after = weights_over(now.arcs, self.wiring, self.distance, over)
-            ratio = after / before
-            mean = (pairs - len(ratio) + ratio.sum()) / pairs
-            return rounded(mean), float(ratio.max(initial=1.0)), int((after > before).sum())
+            total, worst, longer = 0.0, 1.0, 0
+            for some, after in weights_over(now.arcs, self.wiring, self.distance, over):
+                before = self.distance.reshape(-1)[some]
+                ratio = after / before
+                total, worst = total + ratio.sum(), max(worst, ratio.max(initial=1.0))
+                longer += int((after > before).sum())
+            return rounded((pairs - len(over) + total) / pairs), float(worst), longer
         after = tree_weights(now.rows, now.arcs, self.wiring) if self.task.kind == "tree" else walk_weights(now.arcs, self.wiring)
         total, worst, longer = 0.0, 1.0, 0
         height = max(1, BLOCK // self.task.n)
@@ -185,15 +194,12 @@ class ByPlans:
         return rounded(total / pairs), float(worst), longer
 
 
-def differing(now: Any, before: Any, gone: Sequence[int]) -> int:
-    """How many pairs of nodes that are left have another arc than before."""
-    np = numpy()
-    found, some, height = 0, list(gone), max(1, BLOCK // max(1, len(now)))
-    left = np.ones(len(now), bool)
-    left[some] = False
-    for low in range(0, len(now), height):
-        other = now[low:low + height] != before[low:low + height]
-        found += int((other[left[low:low + height]] & left).sum())
+def differing(now: Any, before: Planned, wiring: Wiring, gone: Sequence[int]) -> int:
+    """How many pairs of nodes that are left have another arc than in the plan before."""
+    found, left = 0, numpy().ones(wiring.n, bool)
+    left[list(gone)] = False
+    for sources, arcs in arcs_in_turn(before.rows, wiring, before.by):
+        found += int(((now[sources] != arcs)[left[sources]] & left).sum())
     return found
 
 

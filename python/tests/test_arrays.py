@@ -62,7 +62,7 @@ class PlansTest(unittest.TestCase):
             (u, start, int(to)) for u in range(n) for start, to in zip(plan.nodes[str(u)].starts, plan.nodes[str(u)].neighbours)
         ])
         wiring = arrays.Wiring(n, net.links)
-        arcs = arrays.next_arcs(rows, wiring)
+        arcs = arrays.next_arcs(rows, wiring, wiring.arcs_of(rows))
         found = arrays.walk_weights(arcs, wiring)
         if plan.kind == "tree":
             self.assertTrue((arrays.tree_weights(rows, arrays.to_root(rows, arcs), wiring) == found).all())
