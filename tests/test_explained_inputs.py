@@ -5,8 +5,9 @@ import os
 from typing import List, Tuple, Union
 
 from support.checks import count
-from support.limits import GRAPH_EDGES, GRAPH_NODES, INPUT_BYTES, NET_LINKS, NET_NODES
+from support.limits import GRAPH_EDGES, GRAPH_NODES, INPUT_BYTES, NET_LINKS, NET_NODES, TABLE_LABELS
 from support.marks import built
+from support.networks import row_of
 from support.places import work
 from support.route import SOME, as_nobody, brief, call, expect, good_files, put, run
 from support.saying import explained_as
@@ -90,6 +91,9 @@ def test_explained_inputs() -> None:
         dense = put("said/dense", "".join(links))
         explained_as(f"{sub} of many links", [sub, dense, drain], "opening TooLarge",
                      f"{dense}: {NET_LINKS + 1} links; networks where packets travel have at most {NET_LINKS}")
+    wide = put("said/wide", row_of(TABLE_LABELS + 1)[1])
+    explained_as("a table in lines of many labels", ["xdp", "table", "1", "--node", "b", wide], "opening TooLarge",
+                 f"{wide}: {TABLE_LABELS + 1} nodes; a table in lines has at most {TABLE_LABELS} labels")
     with open("/dev/full", "wb") as full:
         expect("an output that is full, explained", run(["plan", "--explain", ring], stdout=full), b"",
                b"output unwritable\nroute: standard output: could not be written\n", 1)

@@ -12,7 +12,7 @@ from support.book import ByTheBook, ranges_of, starts_in
 from support.checks import count
 from support.limits import GRAPH_NODES, GREAT_SECONDS, TABLE_LABELS
 from support.marks import built
-from support.networks import circle, lone
+from support.networks import circle, lone, row_of
 from support.places import TOP, program, work
 from support.route import (
     NAMES, SOME, TEXTS, alike, brief, call, expect, faults_of, good_files, output_of, put, refused,
@@ -192,8 +192,12 @@ def test_lines() -> None:
     refused("lines of parts", run(["xdp", "table", "1", "--node", "a", put("lined/apart", "a b\nc d\n")]), "opening Disconnected")
     refused("lines of too many labels", run(["xdp", "table", "1", "--node", "n0", put("lined/more", lone(GRAPH_NODES + 1))]),
             f"topology {GRAPH_NODES + 1} TooManyNodes")
-    refused("lines of more labels than a table has", run(["xdp", "table", "1", "--node", "a", put("lined/wide", lone(TABLE_LABELS + 1))]),
-            "opening TooLarge")
+    wide = put("lined/wide", row_of(TABLE_LABELS)[1])
+    plan = run(["plan", "--kind", "tree", wide])[0].decode()
+    expect("lines of as many labels as fit", run(["xdp", "table", "1", "--node", "b", "--kind", "tree", wide]),
+           lines_by_python(plan, "b", ["a", "n2"], 1)[0], b"", 0)
+    for more in (row_of(TABLE_LABELS + 1)[1], lone(TABLE_LABELS + 1)):
+        refused("lines of more labels than a table has", run(["xdp", "table", "1", "--node", "a", put("lined/wide", more)]), "opening TooLarge")
     others: List[List[str]] = [["table", "0"], ["table", "65536"], ["table", "-1"], ["table", "one"], ["tables", "1"], ["1", "table"], ["table"], []]
     for words_ in others:
         expect(f"not understood: xdp {words_}", run(["xdp", *words_, "--node", "a", good]), b"", SOME, 2)
