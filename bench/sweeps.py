@@ -2,7 +2,8 @@
 """Times of sweeps: a failure's cost, processes, and dask beside processes by turns. It needs NumPy, and dask for the last.
 
     sweeps.py cost [TURNS]       seconds of a processor a failure: of the program, and of Python with its figures
-    sweeps.py each [TURNS]       milliseconds a failure of `stats --each links`, and of nodes, beside a plan and `stats`, without the start
+    sweeps.py each [TURNS]       milliseconds a failure of `stats --each links`, and of nodes, beside a plan and `stats`, without the start,
+                                 and how many times that is with `--with tree`
     sweeps.py diff [TURNS]       milliseconds of `diff` beside those of `plan`: a link gone, labels kept
     sweeps.py processes [TURNS]  all single failures of random 128/256 by 1, 2 and 4 processes, by turns
     sweeps.py dask [TURNS]       tasks of 0.2 s by four processes and by four workers of dask, by turns
@@ -83,19 +84,19 @@ def took(*words: Any, text: Any = "") -> Any:
 def each(turns: Any) -> None:
     nets = [("nsfnet 14/21", [(u, v) for u, v in links_of(EXAMPLES / "nsfnet.edgelist")]), ("random 128/256", made("random", 128, 256)),
             ("random 256/1,024", made("random", 256, 1024))]
+    asked = [["plan"], ["stats"], *(["stats", "--each", what, *beside] for what in ("links", "nodes") for beside in ([], ["--with", "tree"]))]
     for name, links in nets:
         text = "".join(f"{u} {v} 1\n" for u, v in links)
+        many = [1, 1, len(links) + 1, len(links) + 1, *[len({u for link in links for u in link}) + 1] * 2]
         for kind in ("shortest", "compact", "tree"):
             rows = []
             for _ in range(turns):
-                plan, stats, by_link, by_node = ([*words, "--kind", kind, "--format", "edgelist", "--threads", "1", "--quiet", "-"]
-                                                 for words in (("plan",), ("stats",), ("stats", "--each", "links"), ("stats", "--each", "nodes")))
                 start = took("--version")
-                rows.append([took(*plan, text=text) - start, took(*stats, text=text) - start, (took(*by_link, text=text) - start) / (len(links) + 1),
-                             (took(*by_node, text=text) - start) / (len({u for link in links for u in link}) + 1)])
-            plan, stats, link, node = (statistics.median(column) for column in zip(*rows))
-            print(f"{name}, {kind}: plan {plan:.2f} ms, stats {stats:.2f} ms, a link {link:.2f} ms, {link / plan:.1f} plans, a node {node:.2f} ms, "
-                  f"{node / plan:.1f} plans", flush=True)
+                rows.append([(took(*words, "--kind", kind, "--format", "edgelist", "--threads", "1", "--quiet", "-", text=text) - start) / count
+                             for words, count in zip(asked, many)])
+            plan, stats, link, link_with, node, node_with = (statistics.median(column) for column in zip(*rows))
+            print(f"{name}, {kind}: plan {plan:.2f} ms, stats {stats:.2f} ms, a link {link:.2f} ms, {link / plan:.1f} plans, with another plan "
+                  f"{link_with / link:.2f} of that, a node {node:.2f} ms, {node / plan:.1f} plans, with {node_with / node:.2f} of that", flush=True)
 
 
 def diff(turns: Any) -> None:

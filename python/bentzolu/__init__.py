@@ -29,10 +29,11 @@ from .relabelling import Relabeller
 from .sharding import plan_shards
 from .sweeping import FailureRow, Sweep, read_sweep, sweep
 from .texts import (
-    Bits, Compactness, Compared, Comparison, Interval, NodePlan, NodePrefixes, Packet, Plan, Prefix, Prefixes, Refused, Run, Segment, Stats, Verdict,
-    Walk, WalkStep, Worst, read_comparison, read_plan, read_prefixes, read_stats, read_trace, read_walk, write_trace,
+    Bits, Compactness, Compared, Comparison, Interval, NodePlan, NodePrefixes, Plan, Prefix, Prefixes, Stats, Walk, WalkStep, Worst,
+    read_comparison, read_plan, read_prefixes, read_stats, read_walk,
 )
 from .timelines import Timeline
+from .traces import Packet, Refused, Run, Segment, Verdict, read_trace, write_trace
 
 __version__ = "2.0.0"
 

@@ -16,7 +16,7 @@ import os
 from concurrent.futures import Future, ThreadPoolExecutor
 from typing import Any, Iterable, Mapping, Sequence
 
-from . import drawing, program as programs, texts
+from . import drawing, program as programs, texts, traces
 from .errors import GraphError
 from .failing import LinkFailures, NodeFailures, read_link_failures, read_node_failures
 from .label_ranges import Range, read_ranges
@@ -461,7 +461,7 @@ def draw(
     return drawing.renamed(output, names)
 
 
-def played(subcommand: str, graph: Network, steps: Any, given: Options) -> texts.Run:
+def played(subcommand: str, graph: Network, steps: Any, given: Options) -> traces.Run:
     """What `sim` or `live` makes of steps."""
     topology = topology_of(graph, given.weight)
     names = topology.names
@@ -471,14 +471,14 @@ def played(subcommand: str, graph: Network, steps: Any, given: Options) -> texts
         words += [] if value is None else [word, str(value)]
     said = programs.run(words, [("topology", topology.text), ("script", script)], given.program, given.timeout, names=names)
     topology.warn(said.notes())
-    version, rows = texts.read_trace(said.output, names)
-    return texts.Run(version, rows, texts.read_refused(said.faults, steps, said.of_steps()), said.output)
+    version, rows = traces.read_trace(said.output, names)
+    return traces.Run(version, rows, traces.read_refused(said.faults, steps, said.of_steps()), said.output)
 
 
 def simulate(
     graph: Network, steps: Any, kind: str | None = None, root: Any = None, capacity: int | None = None,
     packets: int | None = None, restamps: int | None = None, *, options: Options | None = None, **named: Any,
-) -> texts.Run:
+) -> traces.Run:
     """Plays steps over the graph, one after the other (`bentzolu sim`): the packets, and the steps that were refused.
 
     After an `install` packets are stamped with the earlier epoch until a step `("learn", epoch)`.
@@ -525,7 +525,7 @@ def simulate(
 def live(
     graph: Network, steps: Any, kind: str | None = None, root: Any = None, capacity: int | None = None,
     packets: int | None = None, restamps: int | None = None, *, options: Options | None = None, **named: Any,
-) -> texts.Run:
+) -> traces.Run:
     """Plays steps while each node runs in a thread of its own (`bentzolu live`).
 
     How packets and changes meet can differ from run to run.
@@ -561,7 +561,7 @@ def live(
 def check(
     graph: Network, steps: Any, trace: Any, kind: str | None = None, root: Any = None, *,
     options: Options | None = None, **named: Any,
-) -> texts.Verdict:
+) -> traces.Verdict:
     """Whether each row of a trace follows the plan of its epoch among those that the steps install.
 
     Hops, ends and weights are judged. It is not asked whether a packet was injected, a link was down or a channel full,
@@ -597,16 +597,16 @@ def check(
     topology = topology_of(graph, given.weight)
     names = topology.names
     script, _ = script_of(steps, names)
-    if isinstance(trace, texts.Run):
+    if isinstance(trace, traces.Run):
         trace = trace.trace
     elif isinstance(trace, os.PathLike):
         trace = read_text(trace)
     elif not isinstance(trace, str):
-        trace = texts.write_trace(trace, names)
+        trace = traces.write_trace(trace, names)
     read = [("topology", topology.text), ("script", script), ("trace", trace)]
     words = ["check", *options_of(topology, given)]
     said = programs.run(words, read, given.program, given.timeout, findings=True, names=names)
-    return texts.read_verdict(said.output, programs.sentence_of(said, read))
+    return traces.read_verdict(said.output, programs.sentence_of(said, read))
 
 
 def names_of(graph: Network) -> NameTable:

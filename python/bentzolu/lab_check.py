@@ -6,7 +6,7 @@ from typing import Callable, Dict, List, NamedTuple, Sequence, Tuple
 
 from . import program as programs
 from .errors import BentzoluError
-from .texts import Packet, Segment, write_trace
+from .traces import Packet, Segment, write_trace
 
 PIECE, LEAST = 4096, 32  # packets that the program judges at once, at most, and where it finds something of many
 FINDING = re.compile(r"finding (\d+) (\w+)")

@@ -5,7 +5,7 @@ from html import escape
 from typing import TYPE_CHECKING, Any, Iterable, Sequence, Sized
 
 if TYPE_CHECKING:
-    from . import texts
+    from . import texts, traces
 
 MOST_ROWS = 40  # of a table
 MOST_WORDS = 24  # intervals, prefixes or hops of a row
@@ -95,8 +95,8 @@ def comparison(found: texts.Comparison) -> str:
     return table(f"{found.nodes:,} nodes, {found.links:,} links", ("kind", "numbering", "intervals", "greatest row", "bits", "stretch", "worst", "deadlock"), rows)
 
 
-def run(found: texts.Run) -> str:
-    def segment(it: texts.Segment) -> str:
+def run(found: traces.Run) -> str:
+    def segment(it: traces.Segment) -> str:
         return f"epoch {it.epoch}: {joined(it.hops)}"
 
     rows = (

@@ -13,7 +13,8 @@ from typing import Any
 
 from common import TOP, bentzolu, graphs, needs_route, networkx
 from bentzolu import __main__, inside, program
-from bentzolu.texts import MOST_SHOWN, read_verdict
+from bentzolu.texts import MOST_SHOWN
+from bentzolu.traces import read_verdict
 
 RING = "a b\nb c\nc d\nd a\n"
 STEPS = [("inject", "a", "d"), ("install", "shortest", "a"), ("learn", 2), ("inject", "a", "d"), ("drain",)]

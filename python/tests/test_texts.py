@@ -12,7 +12,7 @@ from typing import Any
 
 from common import bentzolu, cases, needs_networkx, networkx
 from bentzolu.errors import fault_of
-from bentzolu.texts import read_verdict
+from bentzolu.traces import read_verdict
 
 PLAN = "plan tree 14 26\nSeattle 2 0 SanDiego 3 PaloAlto\n"
 RUN = """trace 2

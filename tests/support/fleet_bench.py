@@ -22,7 +22,7 @@ from bentzolu.lab import plan_of
 from bentzolu.lab_net import LabError, Network, hardware, links_of, play
 from bentzolu.lab_traffic import Traffic
 from bentzolu.lab_xdp import EVENT, FORWARDED, PROBE, XdpNetwork
-from bentzolu.texts import Packet, Segment, write_trace
+from bentzolu.traces import Packet, Segment, write_trace
 
 HERE = pathlib.Path.cwd()
 PINS = "/run/bentzolu-pins"  # in the mounts of a run
