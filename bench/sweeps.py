@@ -4,7 +4,7 @@
     sweeps.py cost [TURNS]       seconds of a processor a failure: of the program, and of Python with its figures
     sweeps.py each [TURNS]       milliseconds a failure of `stats --each links`, and of nodes, beside a plan and `stats`, without the start,
                                  and how many times that is with `--with tree`
-    sweeps.py diff [TURNS]       milliseconds of `diff` beside those of `plan`: a link gone, labels kept
+    sweeps.py diff [TURNS]       milliseconds of `diff` beside those of `plan`: a link gone, labels made anew or kept
     sweeps.py processes [TURNS]  all single failures of random 128/256 by 1, 2 and 4 processes, by turns
     sweeps.py dask [TURNS]       tasks of 0.2 s by four processes and by four workers of dask, by turns
     sweeps.py memory             the greatest resident set of a process that makes rows of 1,584 nodes
@@ -110,9 +110,11 @@ def diff(turns: Any) -> None:
             new.write_text("".join(f"{u} {v} 1\n" for u, v in (*links[:len(links) // 2], *links[len(links) // 2 + 1:])))
             for kind in ("shortest", "compact"):
                 rest = ["--kind", kind, "--format", "edgelist", "--threads", "1", "--quiet"]
-                rows = [(took("plan", *rest, str(old)), took("diff", "--numbering", "keep", *rest, str(old), str(new))) for _ in range(turns)]
-                plan, change = (min(column) for column in zip(*rows))
-                print(f"{name}, {kind}: plan {plan:.1f} ms, diff {change:.1f} ms, {change / plan:.2f} plans", flush=True)
+                for one, both in (("depth-first", "depth-first"), ("tour", "keep")):  # a plan that keeps labels has those of a tour
+                    rows = [(took("plan", "--numbering", one, *rest, str(old)), took("diff", "--numbering", both, *rest, str(old), str(new)))
+                            for _ in range(turns)]
+                    plan, change = (min(column) for column in zip(*rows))
+                    print(f"{name}, {kind}, {both}: plan {plan:.1f} ms, diff {change:.1f} ms, {change / plan:.2f} plans", flush=True)
 
 
 def processes(turns: Any) -> None:
