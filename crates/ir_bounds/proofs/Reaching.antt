@@ -1,5 +1,5 @@
 -- How far nodes are near, and reaches that are raised along links.
-use Rattle.std.proofs.Common.{◌≡◌, ◌≢◌, ℕ, ◌+◌, ◌-◌, ◌*◌, ◌/◌, ◌%◌, ◌<◌, ◌≤◌, Bool, true, false, List, length, set, Some, refl, ap, sym, subst, ◌∙◌, arith, ⊎_elim, get_or-set_same, get_or-set_other}
+use Rattle.std.proofs.Common.{◌≡◌, ◌≢◌, ℕ, ◌+◌, ◌-◌, ◌*◌, ◌/◌, ◌%◌, ◌<◌, ◌≤◌, Bool, true, false, List, length, set, Some, refl, ap, sym, subst, ◌∙◌, arith, ⊎_elim, add-mul, mul_comm, get_or-set_same, get_or-set_other}
 use Rattle.std.proofs.lemmas.Bool.{cases_eq, cases_lt, cases_Bool, leb-true}
 use Rattle.std.proofs.lemmas.Bool.Decides.{nat_tests}
 use Rattle.std.proofs.lemmas.Nat.{mul-le, div-add-mod', mod_below}
@@ -19,40 +19,40 @@ far_le stretch away radius far = let le : 100 * (away + 2 * radius) ≤ stretch 
 near_lt : (stretch away radius : ℕ) → is_far stretch away radius ≡ false → stretch * away < 100 * away + 200 * radius
 near_lt stretch away radius near = let lt : stretch * away < 100 * (away + 2 * radius) = grind (arith, nat_tests) in omega (arith, lt)
 
--- a stretch beyond the distance, as what is more than the distance
-beyond : (stretch away : ℕ) → 100 < stretch → stretch * away ≡ 100 * away + (stretch - 100) * away
-beyond stretch away more = by (stretch - 100) (omega arith)
-  where
-    by : (k : ℕ) → stretch ≡ 100 + k → stretch * away ≡ 100 * away + k * away
-    by k is = ap (λ (s : ℕ). s * away) is ∙ grind arith
+-- a stretch as what is more than the distance
+beyond : (stretch more away : ℕ) → stretch ≡ 100 + more → stretch * away ≡ 100 * away + more * away
+beyond stretch more away is = ap (λ (s : ℕ). s * away) is ∙ add-mul 100 more away
+
+-- less than one more than a quotient, in units of the divisor
+below_next : (n more q : ℕ) → 0 < more → q ≡ n / more → n < q * more + more
+below_next n more q some is =
+    let whole : q * more + n % more ≡ n = ap (λ (k : ℕ). k * more + n % more) is ∙ div-add-mod' n more in
+    let part : n % more < more = mod_below n more some in
+    omega (arith, whole, part)
 
 -- a node that is near is not as far as this
-pub near_below : (stretch radius away more reach : ℕ) → 100 < stretch → more ≡ stretch - 100 → reach ≡ (200 * radius + more - 1) / more → is_far stretch away radius ≡ false → away < reach
-near_below stretch radius away more reach beyond_100 is reach_is near =
+pub near_below : (stretch radius away more reach : ℕ) → stretch ≡ 100 + more → 0 < more → reach ≡ (200 * radius + more - 1) / more → is_far stretch away radius ≡ false → away < reach
+near_below stretch radius away more reach is some reach_is near =
     ⊎_elim (λ (lt : away < reach). lt)
     (λ (le : reach ≤ away).
-    let some : 0 < more = omega (arith, beyond_100, is) in
-    let n : ℕ = 200 * radius + more - 1 in
-    let whole : n / more * more + n % more ≡ n = div-add-mod' n more in
-    let part : n % more < more = mod_below n more some in
+    let next : 200 * radius + more - 1 < reach * more + more = below_next (200 * radius + more - 1) more reach some reach_is in
     let up : reach * more ≤ away * more = mul-le reach more away more le (omega arith) in
-    let same : reach * more ≡ n / more * more = ap (λ (q : ℕ). q * more) reach_is in
     let lt : stretch * away < 100 * away + 200 * radius = near_lt stretch away radius near in
-    let split : stretch * away ≡ 100 * away + (stretch - 100) * away = beyond stretch away beyond_100 in
-    let turned : (stretch - 100) * away ≡ away * more = ap (λ (k : ℕ). k * away) (sym is) ∙ grind arith in
-    absurd (omega (arith, whole, part, up, same, lt, split, turned)))
+    let split : stretch * away ≡ 100 * away + more * away = beyond stretch more away is in
+    let turned : more * away ≡ away * more = mul_comm more away in
+    absurd (omega (arith, next, up, lt, split, turned)))
     (cases_lt away reach)
 
 -- what is far stays so farther away
-far_farther : (stretch near away radius : ℕ) → 100 < stretch → near ≤ away → is_far stretch near radius ≡ true → is_far stretch away radius ≡ true
-far_farther stretch near away radius more le far =
+pub far_farther : (stretch more near away radius : ℕ) → stretch ≡ 100 + more → near ≤ away → is_far stretch near radius ≡ true → is_far stretch away radius ≡ true
+far_farther stretch more near away radius is le far =
     ⊎_elim (λ (yes : is_far stretch away radius ≡ true). yes)
     (λ (no : is_far stretch away radius ≡ false).
     let lt : stretch * away < 100 * away + 200 * radius = near_lt stretch away radius no in
     let ge : 100 * near + 200 * radius ≤ stretch * near = far_le stretch near radius far in
-    let one : stretch * away ≡ 100 * away + (stretch - 100) * away = beyond stretch away more in
-    let other : stretch * near ≡ 100 * near + (stretch - 100) * near = beyond stretch near more in
-    let up : (stretch - 100) * near ≤ (stretch - 100) * away = mul-le (stretch - 100) near (stretch - 100) away (omega arith) le in
+    let one : stretch * away ≡ 100 * away + more * away = beyond stretch more away is in
+    let other : stretch * near ≡ 100 * near + more * near = beyond stretch more near is in
+    let up : more * near ≤ more * away = mul-le more near more away (omega arith) le in
     absurd (omega (arith, lt, ge, one, other, up)))
     (cases_Bool (is_far stretch away radius))
 
@@ -65,7 +65,7 @@ within_tells net stretch u radii reaches weights more are within = record { ever
         ⊎_elim (λ (far : is_far stretch is.away (at radii d) ≡ true). record {
           away = is.away;
           direct = is.direct;
-          far = far_farther stretch is.away (at weights d) (at radii d) more is.least far ∙ sym far;
+          far = far_farther stretch (stretch - 100) is.away (at weights d) (at radii d) (omega (arith, more)) is.least far ∙ sym far;
           near = λ near. absurd (let bad : true ≡ false = sym far ∙ near in cc bad);
         })
         (λ (near : is_far stretch is.away (at radii d) ≡ false). let same : at weights d ≡ is.away = is.within (are.near d d_in is.away near) in

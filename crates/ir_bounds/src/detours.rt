@@ -163,11 +163,11 @@ fn near_lists(
         (held_lists lists.items)) }
 {
     let batches = topology.nodes().div_ceil(BATCH);
-    let reaches = &short_reaches(alloc, topology, owners, stretch)?;
+    let reaches = short_reaches(alloc, topology, owners, stretch)?;
     let mut lists = Vec::with_capacity(alloc, batches)?;
     for batch in 0..batches {
         lists.push(near_list(
-            alloc, topology, owners, stretch, reaches, batch,
+            alloc, topology, owners, stretch, &reaches, batch,
         )?)?;
     }
     Ok(lists)

@@ -1,7 +1,7 @@
 //! How far the searches for near nodes go. To which nodes a node is near depends on how far their landmarks are, so a
 //! search from it may end there.
 
-ghost use Rattle.std.specs.Prelude.{◌≡◌, ◌<◌, ◌≤◌, ◌×◌, ◌∸◌, ℕ, IfOk, IfSome, Some, length, false};
+ghost use Rattle.std.specs.Prelude.{◌≡◌, ◌<◌, ◌≤◌, ◌+◌, ℕ, IfOk, Some, length, nat_lt, count_by, false};
 ghost use Rattle.ir_model.specs.{Topology.{node_count, port_at}, Walk.IsConnected, Landmark.is_far};
 ghost use Rattle.ir_model.specs.declared.Hop.{Hop};
 ghost use Rattle.ir_tables.specs.Relaxation.{at, IsTight};
@@ -16,11 +16,14 @@ use std::alloc::{AllocError, Global};
 /// How often reaches are raised along links.
 const MOST_SWEEPS: usize = 64;
 
-/// From how many nodes a search is tried.
+/// From how many nodes a search is tried, at most.
 const TRIES: usize = 16;
 
 /// Of how many nodes one is found, at most, where searches are short.
 const SHORT: usize = 8;
+
+/// The fewest nodes of a network in which searches are tried.
+const LEAST_NODES: usize = 64;
 
 /// The reaches of all nodes, where searches that end at them are short, and none where whole searches do as well. It is
 /// refused for memory alone. Takes O(n + m) for each sweep, and some searches, for n nodes and m links.
@@ -34,7 +37,7 @@ pub fn short_reaches(
     requires owners { AreOwners topology.now owners.now.landmarks.items owners.now }
     ensures { IfOk result (AreShortReaches topology.now stretch owners.now) }
 {
-    if stretch <= 100 {
+    if stretch <= 100 || topology.nodes() < LEAST_NODES {
         return Ok(None);
     }
     let reaches = reaches_of(alloc, topology, owners, stretch)?;
@@ -50,17 +53,24 @@ fn are_short(alloc: Global, topology: &Topology, reaches: &[u64]) -> Result<bool
     requires every { length reaches.now ≡ node_count topology.now }
     requires slow { IsTight topology.now (at reaches.now) }
 {
+    topology.invariant();
     let nodes = topology.nodes();
-    if nodes == 0 {
-        return Ok(false);
-    }
-    let mut found = 0usize;
-    for k in 0..TRIES {
-        let u = k * nodes / TRIES;
+    let (mut found, mut all) = (0usize, 0usize);
+    let mut u = 0;
+    while u < nodes {
         let weights = weights_within(alloc, topology, reaches, u as u16)?;
-        found += weights.iter().filter(|weight| **weight != UNREACHED).count();
+        found = found.saturating_add(found_in(weights.as_slice()));
+        all = all.saturating_add(nodes);
+        u += nodes / TRIES + 1;
     }
-    Ok(found * SHORT <= TRIES * nodes)
+    Ok(found.saturating_mul(SHORT) <= all)
+}
+
+// How many nodes a search found.
+fn found_in(weights: &[u32]) -> usize
+    ensures { result ≡ count_by (λ weight. nat_lt weight 4294967295) weights.now }
+{
+    weights.iter().filter(|weight| **weight < UNREACHED).count()
 }
 
 // The reaches of all nodes.

@@ -48,7 +48,8 @@ fn near_lists(
         (held_lists lists.items)) }
 {
     let patience = &Patience::new();
-    let reaches = &short_reaches(alloc, topology, owners, stretch)?;
+    let found = short_reaches(alloc, topology, owners, stretch)?;
+    let reaches = &found;
     crew.lists(
         alloc,
         topology.nodes().div_ceil(BATCH),
