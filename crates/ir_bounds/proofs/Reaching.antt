@@ -81,13 +81,6 @@ within_tells net stretch u radii reaches weights more are within = record { ever
 pub distances_tell : (net : Topology) (stretch u : ℕ) (radii weights : List ℕ) → AreFrom net u weights → TellNear net stretch u radii weights
 distances_tell net stretch u radii weights are = record { every = are.every; each = λ d d_in. record { away = at weights d; direct = are.each d d_in; far = refl; near = λ _. refl } }
 
--- a greater reach at one place
-pub set_ge : (reaches : List ℕ) (y reach d : ℕ) → y < length reaches → at reaches y ≤ reach → at reaches d ≤ at (set reaches y reach) d
-set_ge reaches y reach d y_in le =
-    ⊎_elim (λ (e : d ≡ y). let P : ℕ → Type 0 = λ k. at reaches k ≤ at (set reaches y reach) k in
-    subst P (sym e) (let w : at (set reaches y reach) y ≡ reach = get_or-set_same reaches y reach 0 y_in in omega (arith, w, le)))
-    (λ (ne : d ≢ y). let w : at (set reaches y reach) d ≡ at reaches d = get_or-set_other reaches y d reach 0 ne in omega (arith, w)) (cases_eq d y)
-
 -- the reaches of neighbours are raised by way of the first i ports of x
 pub record IsRaising (net : Topology) (x own : ℕ) (old reaches : List ℕ) (has_raised : Bool) (i : ℕ) : Type 0 where
   pub every : length reaches ≡ length old
@@ -95,70 +88,12 @@ pub record IsRaising (net : Topology) (x own : ℕ) (old reaches : List ℕ) (ha
   pub same : has_raised ≡ false → reaches ≡ old
   pub settled : has_raised ≡ false → (p : ℕ) (hop : Hop) → p < i → port_at net x p ≡ Some hop → own ≤ hop.weight + at old hop.node
 
-pub raising_more : (net : Topology) (x own : ℕ) (old reaches more : List ℕ) (has_raised : Bool) (i reach y : ℕ) → y < length reaches → at reaches y < reach → more ≡ set reaches y reach → length more ≡ length reaches
-    → IsRaising net x own old reaches has_raised i → IsRaising net x own old more true (i + 1)
-raising_more net x own old reaches more has_raised i reach y y_in less is long so_far = record {
-  every = long ∙ so_far.every;
-  raised = λ d. (let before = so_far.raised d in let up = subst (λ (rs : List ℕ). at reaches d ≤ at rs d) (sym is) (set_ge reaches y reach d y_in (omega (arith, less))) in omega (arith, before, up));
-  same = λ no. absurd (cc no);
-  settled = λ no. absurd (cc no);
-}
-
-pub raising_keep : (net : Topology) (x own : ℕ) (old reaches : List ℕ) (has_raised : Bool) (i : ℕ) (hop : Hop) → port_at net x i ≡ Some hop → own - hop.weight ≤ at reaches hop.node
-    → IsRaising net x own old reaches has_raised i → IsRaising net x own old reaches has_raised (i + 1)
-raising_keep net x own old reaches has_raised i hop port le so_far = record {
-  every = so_far.every;
-  raised = so_far.raised;
-  same = so_far.same;
-  settled = λ no p h lt at_p.
-      ⊎_elim (λ (less : p < i). so_far.settled no p h less at_p)
-      (λ (ge : i ≤ p). let same : p ≡ i = omega (arith, lt, ge) in
-      let P : ℕ → Type 0 = λ k. port_at net x k ≡ Some h in
-      let e : hop ≡ h = cc (port, subst P same at_p) in
-      let le' : own - hop.weight ≤ at old hop.node = subst (λ (rs : List ℕ). own - hop.weight ≤ at rs hop.node) (so_far.same no) le in
-      subst (λ (k : Hop). own ≤ k.weight + at old k.node) e (omega (arith, le')))
-      (cases_lt p i);
-}
-
 -- the reaches along the links of the first i nodes
 pub record AreRaising (net : Topology) (old reaches : List ℕ) (has_raised : Bool) (i : ℕ) : Type 0 where
   pub every : length reaches ≡ length old
   pub raised : (d : ℕ) → d < length old → at old d ≤ at reaches d
   pub same : has_raised ≡ false → reaches ≡ old
   pub settled : has_raised ≡ false → (x p : ℕ) (hop : Hop) → x < i → port_at net x p ≡ Some hop → at old x ≤ hop.weight + at old hop.node
-
-pub raisings_some : (net : Topology) (old reaches more : List ℕ) (has_raised : Bool) (i : ℕ) → length more ≡ length reaches → ((d : ℕ) → d < length reaches → at reaches d ≤ at more d)
-    → AreRaising net old reaches has_raised i → AreRaising net old more true (i + 1)
-raisings_some net old reaches more has_raised i long up so_far = record {
-  every = long ∙ so_far.every;
-  raised = λ d d_in. (let before = so_far.raised d d_in in let now = up d (omega (arith, d_in, so_far.every)) in omega (arith, before, now));
-  same = λ no. absurd (cc no);
-  settled = λ no. absurd (cc no);
-}
-
-pub raisings_none : (net : Topology) (old reaches more : List ℕ) (has_raised : Bool) (i : ℕ) → more ≡ reaches → ((p : ℕ) (hop : Hop) → port_at net i p ≡ Some hop → at more i ≤ hop.weight + at more hop.node)
-    → AreRaising net old reaches has_raised i → AreRaising net old more has_raised (i + 1)
-raisings_none net old reaches more has_raised i is here so_far =
-    rw is
-    (record {
-      every = so_far.every;
-      raised = so_far.raised;
-      same = so_far.same;
-      settled = λ no x p hop lt port.
-          ⊎_elim (λ (less : x < i). so_far.settled no x p hop less port)
-          (λ (ge : i ≤ x). let at_i : x ≡ i = omega (arith, lt, ge) in
-          let P : ℕ → Type 0 = λ k. port_at net k p ≡ Some hop in
-          let Q : List ℕ → Type 0 = λ rs. at rs i ≤ hop.weight + at rs hop.node in
-          let R : ℕ → Type 0 = λ k. at old k ≤ hop.weight + at old hop.node in
-          subst R (sym at_i) (subst Q (is ∙ so_far.same no) (here p hop (subst P at_i port))))
-          (cases_lt x i);
-    })
-
--- where a sweep raises nothing, the reaches fall no faster than links weigh
-pub raisings_settled : (net : Topology) → IsTopology net → (old reaches : List ℕ) (has_raised : Bool) (i : ℕ) → node_count net ≤ i → AreRaising net old reaches has_raised i → has_raised ≡ false → IsTight net (at reaches)
-raisings_settled net ok old reaches has_raised i all so_far no =
-    subst (λ (rs : List ℕ). IsTight net (at rs)) (sym (so_far.same no))
-    (λ x p hop port. let facts : PortFacts net x hop = port_facts net ok x p hop port in so_far.settled no x p hop (omega (arith, facts.from, all)) port)
 
 -- reaches that are the same everywhere fall nowhere
 pub level_tight : (net : Topology) → IsTopology net → (reaches : List ℕ) (n : ℕ) → n ≡ node_count net → ((x y : ℕ) → x < n → y < n → at reaches x ≡ at reaches y) → IsTight net (at reaches)

@@ -163,11 +163,12 @@ fn near_lists(
         (held_lists lists.items)) }
 {
     let batches = topology.nodes().div_ceil(BATCH);
-    let reaches = short_reaches(alloc, topology, owners, stretch)?;
+    let found = short_reaches(alloc, topology, owners, stretch)?;
+    let reaches = &found;
     let mut lists = Vec::with_capacity(alloc, batches)?;
     for batch in 0..batches {
         lists.push(near_list(
-            alloc, topology, owners, stretch, &reaches, batch,
+            alloc, topology, owners, stretch, reaches, batch,
         )?)?;
     }
     Ok(lists)
