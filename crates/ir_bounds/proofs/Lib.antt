@@ -8,3 +8,5 @@ pub mod Blocks
 pub mod Linked
 pub mod Determined
 pub mod Rooted
+pub mod Searching
+pub mod Reaching

@@ -14,6 +14,7 @@ ghost use Rattle.ir_bounds.specs.Entries.{ArePut};
 use crate::landmarks::Owners;
 use crate::near::{BATCH, begin_after, entry, near_list};
 use crate::order::{block_order, most_linked};
+use crate::reaches::short_reaches;
 use crate::rows::runs_within;
 use crate::words::word_runs;
 use ir_compile::{WORD_PORTS, canonical_row, row_of_longest};
@@ -33,7 +34,7 @@ pub struct LandmarkBounds {
 
 impl LandmarkBounds {
     /// The bounds of a connected network by the landmarks that a root and a detour choose. It is refused for memory
-    /// alone. Takes as long as `chosen_owners` and `near_list` for each batch.
+    /// alone. Takes as long as `chosen_owners`, `short_reaches`, and `near_list` for each batch.
     pub fn of(
         alloc: Global,
         topology: &Topology,
@@ -162,9 +163,13 @@ fn near_lists(
         (held_lists lists.items)) }
 {
     let batches = topology.nodes().div_ceil(BATCH);
+    let found = short_reaches(alloc, topology, owners, stretch)?;
+    let reaches = &found;
     let mut lists = Vec::with_capacity(alloc, batches)?;
     for batch in 0..batches {
-        lists.push(near_list(alloc, topology, owners, stretch, batch)?)?;
+        lists.push(near_list(
+            alloc, topology, owners, stretch, reaches, batch,
+        )?)?;
     }
     Ok(lists)
 }

@@ -6,7 +6,9 @@ mod detours;
 mod landmarks;
 mod near;
 mod order;
+mod reaches;
 mod rows;
+mod search;
 mod trees;
 mod words;
 
@@ -14,3 +16,4 @@ pub use detours::{LandmarkBounds, block_labels, chosen_owners};
 pub use landmarks::Owners;
 pub use near::{near_list, near_part};
 pub use order::{block_order, most_linked};
+pub use reaches::short_reaches;

@@ -6,9 +6,11 @@ ghost use Rattle.ir_model.specs.Landmark.{bound_by, is_far};
 ghost use Rattle.ir_tables.specs.FromNode.{AreFrom};
 ghost use Rattle.ir_bounds.specs.Bounds.{AreOwners};
 ghost use Rattle.ir_bounds.specs.Near.{IsNearBatch, IsNearPart, begin_of, entry_bound, entry_node, halved_at, part_end};
+ghost use Rattle.ir_bounds.specs.Reaches.{AreShortReaches, TellNear};
 ghost use Rattle.ir_bounds.specs.Entries.{AreAllEntries, AreNearEntries};
 
 use crate::landmarks::Owners;
+use crate::search::weights_within;
 use ir_tables::{Outward, Topology};
 use std::alloc::{AllocError, Global};
 
@@ -20,17 +22,19 @@ const PLAIN: u16 = 2;
 
 const NAMED: u16 = 3;
 
-/// The list of a batch of sixteen nodes, or of those that are left. It is refused for memory alone. Takes
-/// O((n + m) log n) for each, for n nodes and m links.
+/// The list of a batch of sixteen nodes, or of those that are left, by searches that end at reaches where there are
+/// some. It is refused for memory alone. Takes O((n + m) log n) for each, for n nodes and m links.
 pub fn near_list(
     alloc: Global,
     topology: &Topology,
     owners: &Owners,
     stretch: u16,
+    reaches: &Option<Vec<u64>>,
     batch: usize,
 ) -> Result<Vec<u16>, AllocError>
     requires connected { IsConnected topology.now }
     requires owners { AreOwners topology.now owners.now.landmarks.items owners.now }
+    requires reaches { AreShortReaches topology.now stretch owners.now reaches.now }
     requires batch { batch * 16 < node_count topology.now }
     ensures { IfOk result (λ list. IsNearBatch topology.now owners.now.landmarks.items stretch batch list.items) }
 {
@@ -39,11 +43,36 @@ pub fn near_list(
     let mut list = Vec::new(alloc);
     for lane in 0..BATCH.min(topology.nodes() - first) {
         let u = (first + lane) as u16;
-        let ways = Outward::from(alloc, topology, u)?;
-        let part = near_part(alloc, topology, owners, stretch, u, ways.weights())?;
+        let part = sought_part(alloc, topology, owners, stretch, reaches, u)?;
         list.extend_from_slice(part.as_slice())?;
     }
     Ok(list)
+}
+
+// The part of a node, by a search from it.
+fn sought_part(
+    alloc: Global,
+    topology: &Topology,
+    owners: &Owners,
+    stretch: u16,
+    reaches: &Option<Vec<u64>>,
+    u: u16,
+) -> Result<Vec<u16>, AllocError>
+    requires connected { IsConnected topology.now }
+    requires owners { AreOwners topology.now owners.now.landmarks.items owners.now }
+    requires reaches { AreShortReaches topology.now stretch owners.now reaches.now }
+    requires node { u < node_count topology.now }
+    ensures { IfOk result (λ part. IsNearPart topology.now owners.now.landmarks.items stretch u part.items) }
+{
+    if let Some(reaches) = reaches {
+        let away = weights_within(alloc, topology, reaches.as_slice(), u)?;
+        let (count, near) = near_entries(alloc, topology, owners, stretch, u, away.as_slice())?;
+        if near.len() <= 2 * topology.nodes() {
+            return part_of(alloc, count, NAMED, near.as_slice());
+        }
+    }
+    let ways = Outward::from(alloc, topology, u)?;
+    near_part(alloc, topology, owners, stretch, u, ways.weights())
 }
 
 /// The part of a node, by its distances. It is refused for memory alone. Takes O(n), for n nodes.
@@ -88,7 +117,7 @@ fn near_entries(
     away: &[u32],
 ) -> Result<(u16, Vec<u16>), AllocError>
     requires owners { AreOwners topology.now owners.now.landmarks.items owners.now }
-    requires distances { AreFrom topology.now u away.now }
+    requires near { TellNear topology.now stretch u owners.now.radii.items away.now }
     ensures { IfOk result (λ made. AreNearEntries topology.now owners.now.landmarks.items stretch u
         (node_count topology.now) made.0 made.1.items) }
 {

@@ -5,12 +5,13 @@ ghost use Rattle.ir_model.specs.{Topology.node_count, Walk.IsConnected};
 ghost use Rattle.ir_tables.specs.FromNode.{AreFrom};
 ghost use Rattle.ir_lanes.specs.Outward.{AreOutwardLanes, source_at};
 ghost use Rattle.ir_bounds.specs.{Bounds.{AreOwners, held_lists}, Detours.AreDetourBounds};
+ghost use Rattle.ir_bounds.specs.Reaches.{AreShortReaches};
 ghost use Rattle.ir_bounds.specs.Near.{AreNearBatches, AreNearParts, IsNearBatch};
 
 use crate::batches::{BATCH, LEAST_BATCHED, sixteen_from, ways_from};
 use crate::crew::Crew;
 use crate::patience::Patience;
-use ir_bounds::{LandmarkBounds, Owners, chosen_owners, near_list, near_part};
+use ir_bounds::{LandmarkBounds, Owners, chosen_owners, near_list, near_part, short_reaches};
 use ir_lanes::OutwardLanes;
 use ir_model::Detour;
 use ir_tables::{Outward, Topology};
@@ -47,36 +48,41 @@ fn near_lists(
         (held_lists lists.items)) }
 {
     let patience = &Patience::new();
+    let found = short_reaches(alloc, topology, owners, stretch)?;
+    let reaches = &found;
     crew.lists(
         alloc,
         topology.nodes().div_ceil(BATCH),
         1,
         &|batch: usize| -> Result<Vec<u16>, AllocError>
             requires { (batch * 16 < node_count topology.now) × IsConnected topology.now
-                × AreOwners topology.now owners.now.landmarks.items owners.now }
+                × AreOwners topology.now owners.now.landmarks.items owners.now
+                × AreShortReaches topology.now stretch owners.now reaches.now }
             ensures { IfOk result (λ list. IsNearBatch topology.entry.now owners.entry.now.landmarks.items stretch batch
                 list.items) }
-        { near_batch(alloc, topology, owners, stretch, batch, patience) },
+        { near_batch(alloc, topology, owners, stretch, reaches, batch, patience) },
     )
 }
 
-// The list of near nodes of a batch.
+// The list of near nodes of a batch. Where no searches are short, the nodes are searched from in the lanes.
 fn near_batch(
     alloc: Global,
     topology: &Topology,
     owners: &Owners,
     stretch: u16,
+    reaches: &Option<Vec<u64>>,
     batch: usize,
     patience: &Patience,
 ) -> Result<Vec<u16>, AllocError>
     requires connected { IsConnected topology.now }
     requires owners { AreOwners topology.now owners.now.landmarks.items owners.now }
+    requires reaches { AreShortReaches topology.now stretch owners.now reaches.now }
     requires batch { batch * 16 < node_count topology.now }
     ensures { IfOk result (λ list. IsNearBatch topology.now owners.now.landmarks.items stretch batch list.items) }
 {
     let nodes = topology.nodes();
-    if nodes < LEAST_BATCHED {
-        return near_list(alloc, topology, owners, stretch, batch);
+    if nodes < LEAST_BATCHED || reaches.is_some() {
+        return near_list(alloc, topology, owners, stretch, reaches, batch);
     }
     let first = batch * BATCH;
     let sources = sixteen_from(alloc, nodes, first)?;

@@ -3,7 +3,11 @@ use Rattle.std.specs.Global.{Vec}
 use Rattle.std.proofs.lemmas.Result.{IfOk-weaker}
 use Rattle.ir_bounds.specs.Near.{IsNearPart}
 use Rattle.ir_bounds.proofs.Parts.{named_part, plain_part}
+use Rattle.ir_bounds.proofs.Reaching.{distances_tell}
 use Rattle.ir_bounds.proofs.near.near_part.Goals as goal
+
+pub near_entries-requires-clause-near : goal.near_entries-requires-clause-near
+near_entries-requires-clause-near c = distances_tell c.args.topology.now c.args.stretch c.args.u c.args.owners.now.radii.items c.args.away.now c.requires.distances
 
 pub returns-then-len-nodes : goal.returns-then-len-nodes
 returns-then-len-nodes c =

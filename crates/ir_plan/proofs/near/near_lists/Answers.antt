@@ -19,4 +19,4 @@ returns g c =
 
 pub lists-requires-clause-each : goal.lists-requires-clause-each
 lists-requires-clause-each g c =
-    of_closure (Vec ℕ) _ _ (same-1-1 c.lists-arg-2-1.given) _ c.div_ceil.result (λ b lt. (omega (arith, lt, c.div_ceil.ensures, c.nodes.ensures.count), c.requires.connected, c.requires.owners))
+    of_closure (Vec ℕ) _ _ (same-1-1 c.lists-arg-2-1.given) _ c.div_ceil.result (λ b lt. (omega (arith, lt, c.div_ceil.ensures, c.nodes.ensures.count), c.requires.connected, c.requires.owners, c.in_ok-found.ensures))
