@@ -258,10 +258,10 @@ search_done net ok u reaches weights entries u_in connected slow none so_far = r
         let way = distance_way net d u n back in
         let small : n ≤ 2147483647 = distance_small net ok u d n far.1 in
         let least : n ≤ at weights d = ⊎_elim
-            (λ (found : at weights d < 4294967295). let r = so_far.reached d d_in found in
-            let le : n ≤ walk_weight net (d ∷ r.0) = back.least (d ∷ r.0) (refl, r.1) in omega (arith, le, r.2))
-            (λ (lost : 4294967295 ≤ at weights d). omega (arith, lost, small))
-            (cases_lt (at weights d) 4294967295) in
+        (λ (found : at weights d < 4294967295). let r = so_far.reached d d_in found in
+        let le : n ≤ walk_weight net (d ∷ r.0) = back.least (d ∷ r.0) (refl, r.1) in omega (arith, le, r.2))
+        (λ (lost : 4294967295 ≤ at weights d). omega (arith, lost, small))
+        (cases_lt (at weights d) 4294967295) in
         record {
           away = n;
           direct = far.1;

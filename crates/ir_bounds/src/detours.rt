@@ -167,9 +167,7 @@ fn near_lists(
     let reaches = &found;
     let mut lists = Vec::with_capacity(alloc, batches)?;
     for batch in 0..batches {
-        lists.push(near_list(
-            alloc, topology, owners, stretch, reaches, batch,
-        )?)?;
+        lists.push(near_list(alloc, topology, owners, stretch, reaches, batch)?)?;
     }
     Ok(lists)
 }

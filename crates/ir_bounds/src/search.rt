@@ -38,7 +38,14 @@ pub fn weights_within(
     while let Some(Reverse(entry)) = waiting.pop() {
         let x = (entry % UNIT) as u16;
         if entry / UNIT == weights[x as usize] as u64 {
-            go_on(topology, reaches, u, x, weights.as_mut_slice(), &mut waiting)?;
+            go_on(
+                topology,
+                reaches,
+                u,
+                x,
+                weights.as_mut_slice(),
+                &mut waiting,
+            )?;
         }
     }
     Ok(weights)

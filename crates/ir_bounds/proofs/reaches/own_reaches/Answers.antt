@@ -13,6 +13,6 @@ loop-radius-preserved c =
     let radius : ℕ = get_or radii i 0 in
     let reach : ℕ = (200 * radius + (stretch - 100) - 1) / (stretch - 100) in
     let pushed = number_pushed (λ (d x : ℕ). (away : ℕ) → is_far stretch away (at radii d) ≡ false → away < x) i c.loop-radius.reaches.items c.push.new.self.items reach
-        c.loop-radius.invariant.every c.loop-radius.invariant.near c.in_ok-push.ensures.items
-        (λ away near. near_below stretch radius away (stretch - 100) reach (omega (arith, c.requires)) (omega (arith, c.requires)) refl near) in
+    c.loop-radius.invariant.every c.loop-radius.invariant.near c.in_ok-push.ensures.items
+    (λ away near. near_below stretch radius away (stretch - 100) reach (omega (arith, c.requires)) (omega (arith, c.requires)) refl near) in
     record { every = pushed.0; near = pushed.1 }

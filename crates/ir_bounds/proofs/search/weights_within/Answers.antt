@@ -18,13 +18,13 @@ loop-entry-init c =
 pub index-requires : goal.index-requires
 index-requires c =
     let is : IsPopped c.args.topology.now c.in-Some.field-0.0 = popped c.args.topology.now c.nodes.ensures.topology c.args.u c.args.reaches.now c.loop-entry.weights.items (heap_items c.loop-entry.waiting) (heap_items c.pop.new.self)
-        c.in-Some.field-0 c.in-Some.ensures.permutation c.loop-entry.invariant in
+    c.in-Some.field-0 c.in-Some.ensures.permutation c.loop-entry.invariant in
     omega (arith, is.node_in, c.loop-entry.invariant.every, c.loop-entry.weights.ok.0)
 
 pub go_on-requires-clause-node : goal.go_on-requires-clause-node
 go_on-requires-clause-node c =
     let is : IsPopped c.args.topology.now c.in-Some.field-0.0 = popped c.args.topology.now c.nodes.ensures.topology c.args.u c.args.reaches.now c.loop-entry.weights.items (heap_items c.loop-entry.waiting) (heap_items c.pop.new.self)
-        c.in-Some.field-0 c.in-Some.ensures.permutation c.loop-entry.invariant in
+    c.in-Some.field-0 c.in-Some.ensures.permutation c.loop-entry.invariant in
     is.node_in
 
 pub go_on-requires-clause-so_far : goal.go_on-requires-clause-so_far
