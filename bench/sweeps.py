@@ -84,7 +84,8 @@ def took(*words: Any, text: Any = "") -> Any:
 def each(turns: Any) -> None:
     nets = [("nsfnet 14/21", [(u, v) for u, v in links_of(EXAMPLES / "nsfnet.edgelist")]), ("random 128/256", made("random", 128, 256)),
             ("random 256/1,024", made("random", 256, 1024))]
-    asked = [["plan"], ["stats"], *(["stats", "--each", what, *beside] for what in ("links", "nodes") for beside in ([], ["--with", "tree"]))]
+    beside = ["--with", "tree"]
+    asked = [["plan"], ["stats"], *(["stats", "--each", *rest] for rest in (["links"], ["links", *beside], ["nodes"], ["nodes", *beside]))]
     for name, links in nets:
         text = "".join(f"{u} {v} 1\n" for u, v in links)
         many = [1, 1, len(links) + 1, len(links) + 1, *[len({u for link in links for u in link}) + 1] * 2]
