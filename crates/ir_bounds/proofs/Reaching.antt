@@ -10,7 +10,7 @@ use Rattle.ir_model.specs.Landmark.{is_far}
 use Rattle.ir_model.proofs.Walks.{port_facts, PortFacts}
 use Rattle.ir_tables.specs.FromNode.{AreFrom}
 use Rattle.ir_tables.specs.Relaxation.{at, IsTight}
-use Rattle.ir_bounds.specs.Reaches.{AreReaches, AreWithin, IsWithin, TellNear, TellsNear}
+use Rattle.ir_bounds.specs.Reaches.{AreReaches, AreWithin, IsWithinReach, TellNear, TellsNear}
 
 -- the test for far, as numbers
 far_le : (stretch away radius : ℕ) → is_far stretch away radius ≡ true → 100 * away + 200 * radius ≤ stretch * away
@@ -60,7 +60,7 @@ far_farther stretch more near away radius is le far =
 pub within_tells : (net : Topology) (stretch u : ℕ) (radii reaches weights : List ℕ) → 100 < stretch → AreReaches net stretch radii reaches → AreWithin net u reaches weights → TellNear net stretch u radii weights
 within_tells net stretch u radii reaches weights more are within = record { every = within.every; each = λ d d_in. tells d d_in (within.each d d_in) }
   where
-    tells : (d : ℕ) → d < node_count net → IsWithin net u d (at reaches d) (at weights d) → TellsNear net stretch u d (at radii d) (at weights d)
+    tells : (d : ℕ) → d < node_count net → IsWithinReach net u d (at reaches d) (at weights d) → TellsNear net stretch u d (at radii d) (at weights d)
     tells d d_in is =
         ⊎_elim (λ (far : is_far stretch is.away (at radii d) ≡ true). record {
           away = is.away;

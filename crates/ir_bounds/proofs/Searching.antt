@@ -13,10 +13,10 @@ use Rattle.ir_model.proofs.Tables.{distance_way}
 use Rattle.ir_model.proofs.Ways.{symmetric}
 use Rattle.ir_model.proofs.Reach.{connected_distances}
 use Rattle.ir_tables.specs.Relaxation.{at, AllReached, IsReached, IsTight}
-use Rattle.ir_tables.specs.Keys.{KeyEntry, key_entry, key_of, IsEntry}
+use Rattle.ir_tables.specs.Keys.{KeyEntry, NoNode, Only, key_entry, key_of, IsEntry}
 use Rattle.ir_tables.proofs.Entries.{all_cons, all_tail, contains_cons, contains_head, contains_tail, set_le}
-use Rattle.ir_bounds.specs.Reaches.{AreWithin, IsWithin}
-use Rattle.ir_bounds.specs.Searches.{IsOffered, IsSearching, IsSpent, NoNode, Only}
+use Rattle.ir_bounds.specs.Reaches.{AreWithin, IsWithinReach}
+use Rattle.ir_bounds.specs.Searches.{IsOffered, IsSearching, IsSpent}
 use Rattle.ir_bounds.proofs.Numbers.{distance_small}
 
 -- a node gets a lesser weight by way of x
@@ -250,7 +250,7 @@ search_done net ok u reaches weights entries u_in connected slow none so_far = r
     spent : (x : ℕ) → x < node_count net → IsSpent net reaches weights x
     spent x x_in = ⊎_elim (λ (s : IsSpent net reaches weights x). s) (λ (waits : Contains entries (key_entry (at weights x) x)). absurd (omega (arith, waits.1, none))) (so_far.pending x x_in (λ no_node. no_node))
 
-    each : (d : ℕ) → d < node_count net → IsWithin net u d (at reaches d) (at weights d)
+    each : (d : ℕ) → d < node_count net → IsWithinReach net u d (at reaches d) (at weights d)
     each d d_in =
         let far = connected_distances net ok connected u d u_in d_in in
         let n : ℕ = far.0 in

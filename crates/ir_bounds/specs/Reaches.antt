@@ -19,7 +19,7 @@ abbrev pub AreShortReaches : Topology → ℕ → Owners → Option (Vec ℕ) �
 AreShortReaches net stretch owners found = IfSome found (λ reaches. (100 < stretch) × AreReaches net stretch owners.radii.items reaches.items)
 
 -- no weight is less than the distance from u, and it is the distance where that is within the reach
-pub record IsWithin (net : Topology) (u d reach weight : ℕ) : Type 0 where
+pub record IsWithinReach (net : Topology) (u d reach weight : ℕ) : Type 0 where
   pub away : ℕ
   pub direct : IsDistance net u d away
   pub least : away ≤ weight
@@ -28,7 +28,7 @@ pub record IsWithin (net : Topology) (u d reach weight : ℕ) : Type 0 where
 -- such are the weights of all nodes
 pub record AreWithin (net : Topology) (u : ℕ) (reaches weights : List ℕ) : Type 0 where
   pub every : length weights ≡ node_count net
-  pub each : (d : ℕ) → d < node_count net → IsWithin net u d (at reaches d) (at weights d)
+  pub each : (d : ℕ) → d < node_count net → IsWithinReach net u d (at reaches d) (at weights d)
 
 -- The weights tell which nodes are far from u, and are the distances to the others.
 pub record TellsNear (net : Topology) (stretch u d radius weight : ℕ) : Type 0 where

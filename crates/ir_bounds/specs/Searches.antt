@@ -13,14 +13,6 @@ IsOffered reaches weights own hop = (at weights hop.node ≤ own + hop.weight) �
 abbrev pub IsSpent : Topology → List ℕ → List ℕ → ℕ → Type 0
 IsSpent net reaches weights x = (p : ℕ) (hop : Hop) → port_at net x p ≡ Some hop → IsOffered reaches weights (at weights x) hop
 
--- no node is left out
-abbrev pub NoNode : ℕ → Type 0
-NoNode v = ⊥
-
--- v alone is left out
-abbrev pub Only : ℕ → ℕ → Type 0
-Only v x = x ≡ v
-
 -- weights of ways from u, and entries that wait, where each node but those left out is spent or waits
 pub record IsSearching (net : Topology) (u : ℕ) (reaches : List ℕ) (out : ℕ → Type 0) (weights : List ℕ) (entries : List KeyEntry) : Type 0 where
   pub every : length weights ≡ node_count net

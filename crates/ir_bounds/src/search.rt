@@ -3,9 +3,10 @@
 ghost use Rattle.std.specs.Prelude.{◌≡◌, ◌↔◌, ◌+◌, ◌≤◌, ◌<◌, IfOk, OnOk, IsTrue, length, sum};
 ghost use Rattle.std.specs.BinaryHeap.{heap_items};
 ghost use Rattle.ir_model.specs.{Topology.node_count, Walk.IsConnected};
+ghost use Rattle.ir_tables.specs.Keys.{NoNode, Only};
 ghost use Rattle.ir_tables.specs.Relaxation.{at, IsTight};
 ghost use Rattle.ir_bounds.specs.Reaches.{AreWithin};
-ghost use Rattle.ir_bounds.specs.Searches.{IsSearching, NoNode, Only};
+ghost use Rattle.ir_bounds.specs.Searches.{IsSearching};
 
 use ir_tables::{Topology, UNREACHED};
 use std::alloc::{AllocError, Global};

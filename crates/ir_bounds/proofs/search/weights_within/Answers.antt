@@ -2,9 +2,9 @@ use Rattle.std.proofs.Common.{◌≡◌, ◌∙◌, ◌%◌, ℕ, List, replicat
 use Rattle.std.proofs.lemmas.List.{get_or_read}
 use Rattle.std.specs.BinaryHeap.{heap_items}
 use Rattle.ir_model.specs.Topology.{node_count}
-use Rattle.ir_tables.specs.Keys.{KeyEntry}
+use Rattle.ir_tables.specs.Keys.{KeyEntry, Only}
 use Rattle.ir_tables.specs.Relaxation.{at}
-use Rattle.ir_bounds.specs.Searches.{IsSearching, Only}
+use Rattle.ir_bounds.specs.Searches.{IsSearching}
 use Rattle.ir_bounds.proofs.Searching.{IsPopped, popped, popped_fresh, popped_stale, search_start, search_done}
 use Rattle.ir_bounds.proofs.search.weights_within.Goals as goal
 

@@ -1,6 +1,7 @@
 use Rattle.std.proofs.Common.{◌+◌, length, sum}
 use Rattle.std.specs.BinaryHeap.{heap_items}
-use Rattle.ir_bounds.specs.Searches.{IsSearching, NoNode}
+use Rattle.ir_tables.specs.Keys.{NoNode}
+use Rattle.ir_bounds.specs.Searches.{IsSearching}
 use Rattle.ir_bounds.proofs.search.weights_within.Given as goal
 
 abbrev pub invariant-loop-entry : goal.invariant-loop-entry
